@@ -20,7 +20,7 @@ function __gz_hold_words
 end
 
 function __gz_hold_commands
-    printf '%s\n' create\t'Make the table' get\t'Load modules and hold them' put\t'Give modules back' run\t'Hold modules while a command runs' \
+    printf '%s\n' create\t'Make the table' renew\t'Take in new modules of the machine' get\t'Load modules and hold them' put\t'Give modules back' run\t'Hold modules while a command runs' \
         keep\t'Hold modules until standard input ends' \
         remove\t'Remove modules that nobody uses' upgrade\t'Remove a module, run a command, load it again' \
         guard\t'Let modprobe -r ask the table' reap\t'Give back what dead processes hold' check\t'Compare the table with the kernel' \

@@ -31,7 +31,7 @@ def faults_of_renewals(room):
 
 def catalogues():
     """One with a module more, and one without those that are there."""
-    Path("more.catalogue").write_text(CATALOGUE.read_text() + "module zfs\nneeds snd_card_new\n")
+    Path("more.catalogue").write_text(CATALOGUE.read_text() + "module zfs\n")
     Path("less.catalogue").write_text("module zfs\n")
 
 

@@ -13,7 +13,7 @@ ODD = "a\n'b' \"c\" $d `e` \\ *\n"
 # Where a script assigns a variable.
 ASSIGNED = re.compile(r"(?:^|[\s;({])([a-z_]+)=|\bfor ([a-z_]+)\b")
 LOADED = "gz-hold: others have loaded {} meanwhile, perhaps from the old file"
-NEWER = "gz-hold: newer is a module of the machine, and not of the table, which was made before: make it anew once nobody holds anything"
+NEWER = "gz-hold: newer is a module of the machine, and not of the table, which was made before: gz-hold renew takes it in"
 KERNEL_ALONE = "gz-hold: the kernel alone has stp; gz-hold mend tells the table"
 
 

@@ -37,6 +37,14 @@ STEPS = [
     Step("gz-hold get web18 overlay pci:v00001AF4d00001000sv00", "ok overlay loop\n", 0, "llc stp bridge br_netfilter overlay loop"),
     Step("gz-hold get web17 br-netfilter", "ok br_netfilter\n", 0, "llc stp bridge br_netfilter overlay loop"),
     Step("gz-hold list", "web17 br_netfilter 1\nweb18 overlay 1\nweb18 loop 1\n", 0, "llc stp bridge br_netfilter overlay loop"),
+    # A module that the machine got since is taken in, and nobody loses what he holds.
+    Step("sh -c NEW_MODULE", "", 0, "llc stp bridge br_netfilter overlay loop"),
+    Step("gz-hold get web17 late", "error ENOENT late\n", 10, "llc stp bridge br_netfilter overlay loop"),
+    Step("gz-hold renew -S VERSION --root=ROOM", "", 0, "llc stp bridge br_netfilter overlay loop"),
+    Step("gz-hold list", "web17 br_netfilter 1\nweb18 overlay 1\nweb18 loop 1\n", 0, "llc stp bridge br_netfilter overlay loop"),
+    Step("gz-hold get web17 late", "ok late\n", 0, "llc stp bridge br_netfilter overlay loop late"),
+    Step("gz-hold put --remove web17 late", "ok\n", 0, "llc stp bridge br_netfilter overlay loop"),
+    Step("gz-hold check", "", 0, "llc stp bridge br_netfilter overlay loop"),
     # What is held stays, and what it needs.
     Step("gz-hold remove overlay", "error EWOULDBLOCK overlay\n", 11, "llc stp bridge br_netfilter overlay loop"),
     Step("gz-hold remove llc", "error EWOULDBLOCK llc\n", 11, "llc stp bridge br_netfilter overlay loop"),
@@ -187,6 +195,7 @@ STEPS = [
 # What the steps have a shell do, with the file that plays /proc/modules.
 COMMANDS = {
     "USED": "echo loop >{}.used",
+    "NEW_MODULE": "printf 'kernel/net/late.ko:\\n' >>$(dirname {})/lib/modules/6.1.0/modules.dep",
     "STP_USED": "sed -i '/^stp /s/16384 0/16384 1/' {}",
     "STP_UNUSED": "sed -i s/16384.1/16384\\ 0/ {}",
     "UNLOADING": "sed -i '/^loop /s/Live/Unloading/' {}",
