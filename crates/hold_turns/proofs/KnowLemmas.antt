@@ -1,7 +1,10 @@
 -- What calls know stays true.
-use Rattle.std.proofs.Common.{arith, [], Contains, ◌≡◌, sym, ap, subst, ◌∙◌, true, false, ℕ, ◌<◌, List, length, get_or, set, Some}
+use Rattle.std.proofs.Common.{arith, [], Bool, eqb, Contains, ◌≡◌, sym, ap, subst, ◌∙◌, true, false, ℕ, ◌<◌, List, length, get_or, set, Some}
 use mathlib.Core.Logic.{⊎_elim}
+use Rattle.std.specs.List.{IsAnyAnswer}
 use Rattle.std.proofs.lemmas.Bool.{cases_eq}
+use Rattle.std.proofs.lemmas.Bool.Decides.{Decides-eqb}
+use Rattle.std.proofs.lemmas.List.Elements.{contains_decides}
 use Rattle.std.proofs.lemmas.List.{get_or-set_same, get_or-set_other, length-set}
 use Rattle.hold_turns.specs.Events.{Event, IsOwed}
 use Rattle.hold_turns.specs.Views.{TableView, HandsView, Act, Idle}
@@ -118,8 +121,13 @@ ready_none n slots h none idle = record { locks = λ k d lt. absurd (not_within 
 pub owed_same : (n : ℕ) (g ms : List ℕ) (t : TableView) (h i : HandsView) → i.events ≡ h.events → HoldsOwed n g ms t h → HoldsOwed n g ms t i
 owed_same n g ms t h i same holds m among owed = holds m among (subst (λ (es : List Event). IsOwed es n g m) same owed)
 
-pub owner_of : (n m : ℕ) (slots : List ℕ) (h : HandsView) → HasLocks n slots h → Contains slots m → h.owner m ≡ Some n
+owner_of : (n m : ℕ) (slots : List ℕ) (h : HandsView) → HasLocks n slots h → Contains slots m → h.owner m ≡ Some n
 owner_of n m slots h locks (k, lt, is) = subst (λ (x : ℕ). h.owner x ≡ Some n) is (locks k m lt)
+
+-- a slot that was found among those that a call has locked
+pub owner_found : (n m : ℕ) (slots : List ℕ) (h : HandsView) (found : Bool) → HasLocks n slots h → IsAnyAnswer (λ y b. eqb y m ≡ b) slots found → found ≡ true → h.owner m ≡ Some n
+owner_found n m slots h found locks answer is =
+    let at = (contains_decides eqb Decides-eqb slots m found answer).0 is in owner_of n m slots h locks (at.0, at.1, at.2 m)
 
 pub ready_noted : (n : ℕ) (e : Event) (slots : List ℕ) (h i : HandsView) → IsReady n slots h → Notes e h i → IsReady n slots i
 ready_noted n e slots h i r q = record { locks = λ k d lt. q.locks _ _ (r.locks k d lt); idle = q.acts n ∙ r.idle }

@@ -1,5 +1,5 @@
 //! The end of what was left half done, and what a plan lacks.
-ghost use Rattle.std.specs.Prelude.{◌≡◌, true, Some, Contains};
+ghost use Rattle.std.specs.Prelude.{◌≡◌, Some};
 ghost use Rattle.hold_turns.specs.Lines.{ending_of};
 ghost use Rattle.hold_turns.specs.Views.{Idle};
 ghost use Rattle.hold_turns.specs.Acts.{IsQuiet};
@@ -64,18 +64,6 @@ pub(crate) fn bring_all<T: Table, H: Hands>(
     Ok(())
 }
 
-/// Whether a slot is among these. `false` is no promise.
-pub(crate) fn has(slots: &[usize], slot: usize) -> bool
-    ensures { result ≡ true → Contains slots.now slot }
-{
-    for other in slots {
-        if *other == slot {
-            return true;
-        }
-    }
-    false
-}
-
 /// Whether a module is as the call wants it.
 fn is_as_asked(job: Job, state: ModuleState) -> bool {
     match job {
@@ -114,9 +102,7 @@ pub(crate) fn missing_of<T: Table>(
     for slot in plan {
         let state = table.state(*slot)?;
         if !is_as_asked(job, state) {
-            if missing.push(*slot).is_err() {
-                return Err(Stopped::OutOfMemory);
-            }
+            missing.push(*slot)?;
         }
     }
     Ok(missing)

@@ -6,7 +6,7 @@ ghost use Rattle.hold_turns.specs.declared.call.State.TheVariants.{Begins};
 
 use crate::hands::{Gone, Hands};
 use crate::table::{Broken, Table};
-use std::alloc::{AllocError, Global};
+use std::alloc::{AllocFailed, Global};
 
 /// What a call is asked.
 #[derive(Clone, Copy, Debug, PartialEq, Eq, Drop)]
@@ -29,8 +29,8 @@ pub enum Stopped {
     Broken,
 }
 
-impl From<AllocError> for Stopped {
-    fn from(_error: AllocError) -> Stopped {
+impl<T: Drop> From<AllocFailed<T>> for Stopped {
+    fn from(_error: AllocFailed<T>) -> Stopped {
         Stopped::OutOfMemory
     }
 }
@@ -158,10 +158,7 @@ impl<'a> Call<'a> {
     pub fn is_over(&self) -> bool
         ensures { result ≡ is_over self.now.state }
     {
-        match self.state {
-            State::Over(_) => true,
-            _ => false,
-        }
+        matches!(self.state, State::Over(_))
     }
 
     /// What the call does next, by its state.

@@ -6,7 +6,7 @@ ghost use Rattle.hold_turns.specs.Rule.{AreOne, IsTurn, IsReady, HasLocks, Holds
 ghost use Rattle.hold_turns.specs.declared.call.State.TheVariants.{Begins, Holding, Locking, Bringing, Stepping, Acting, Looking};
 ghost use Rattle.hold_turns.specs.Course.{may_come};
 
-use crate::bring::{bring_all, first_of, has, missing_of};
+use crate::bring::{bring_all, first_of, missing_of};
 use crate::call::{Call, End, Job, State, Stopped};
 use crate::hands::Hands;
 use crate::table::{Half, Table};
@@ -209,7 +209,7 @@ impl<'a> Call<'a> {
             self.let_locks_go(number, State::Over(End::Refused(slot)), hands);
             return Ok(());
         }
-        if has(&self.locked, slot) {
+        if self.locked.contains(&slot) {
             return self.begin_act(number, slot, table, hands);
         }
         self.let_locks_go(number, self.anew(), hands);
