@@ -1,6 +1,7 @@
 -- The course of a call, and what choices make of calls.
 use Rattle.std.specs.Prelude.{◌≡◌, ℕ, ◌<◌, Bool, true, false, List, [], ◌∷◌, length, slice_index_or}
 use Rattle.hold_turns.specs.declared.call.Call.{Call}
+use Rattle.hold_turns.specs.declared.call.Job.{Job}
 use Rattle.hold_turns.specs.declared.call.State.{State}
 use Rattle.hold_turns.specs.declared.call.State.TheVariants.{Begins, Holding, Locking, Bringing, Stepping, Acting, Looking, Over}
 use Rattle.hold_turns.specs.declared.run.Choice.{Choice}
@@ -26,6 +27,15 @@ may_come Looking Locking = true
 may_come (Over end) after = false
 may_come before (Over end) = true
 may_come _ _ = false
+
+-- the call is asked this for these modules and by this plan, and has made no turn
+pub record IsAsked (asked : Job) (asker asks planned : List ℕ) (call : Call) : Type 0 where
+  pub begins : call.state ≡ Begins
+  pub none : call.locked.items ≡ []
+  pub job : call.job ≡ asked
+  pub holder : call.holder.now ≡ asker
+  pub modules : call.modules.now ≡ asks
+  pub plan : call.plan.now ≡ planned
 
 -- a call that is not over made a turn, and one that is over stays over
 pub record HasTurned (old new : Call) : Type 0 where

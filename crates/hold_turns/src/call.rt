@@ -1,7 +1,7 @@
 //! A call, as a value that makes turns.
 ghost use Rattle.std.specs.Prelude.{◌≡◌, [], true, OnOk};
 ghost use Rattle.hold_turns.specs.Rule.{AreOne, IsTurn, is_over, Knows};
-ghost use Rattle.hold_turns.specs.Course.{HasTurned};
+ghost use Rattle.hold_turns.specs.Course.{HasTurned, IsAsked};
 ghost use Rattle.hold_turns.specs.declared.call.State.TheVariants.{Begins};
 
 use crate::hands::{Gone, Hands};
@@ -102,6 +102,7 @@ impl<'a> Call<'a> {
     ) -> Call<'a>
         ensures begins { result.state ≡ Begins }
         ensures none { result.locked.items ≡ [] }
+        ensures asked { IsAsked job holder.now modules.now plan.now result }
     {
         Call {
             job,
@@ -118,6 +119,7 @@ impl<'a> Call<'a> {
     pub fn get(alloc: Global, holder: &'a [u8], modules: &'a [usize], plan: &'a [usize]) -> Call<'a>
         ensures begins { result.state ≡ Begins }
         ensures none { result.locked.items ≡ [] }
+        ensures asked { IsAsked Job.Get holder.now modules.now plan.now result }
     {
         Call::of(alloc, Job::Get, holder, modules, plan)
     }
@@ -126,6 +128,7 @@ impl<'a> Call<'a> {
     pub fn put(alloc: Global, holder: &'a [u8], modules: &'a [usize]) -> Call<'a>
         ensures begins { result.state ≡ Begins }
         ensures none { result.locked.items ≡ [] }
+        ensures asked { IsAsked Job.Put holder.now modules.now [] result }
     {
         Call::of(alloc, Job::Put, holder, modules, &[])
     }
@@ -134,6 +137,7 @@ impl<'a> Call<'a> {
     pub fn remove(alloc: Global, plan: &'a [usize]) -> Call<'a>
         ensures begins { result.state ≡ Begins }
         ensures none { result.locked.items ≡ [] }
+        ensures asked { IsAsked Job.Remove [] [] plan.now result }
     {
         Call::of(alloc, Job::Remove, &[], &[], plan)
     }

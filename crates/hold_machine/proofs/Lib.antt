@@ -1,0 +1,4 @@
+mod KernelLemmas
+mod LockLemmas
+mod TableLemmas
+mod RunLemmas
