@@ -90,7 +90,7 @@ has_promised t h one g m p = one.live m (one.held g m (one.promised g m p))
 
 -- the hands with one event more
 abbrev noted : HandsView → Event → HandsView
-noted h e = record { owner = h.owner; acts = h.acts; events = e ∷ h.events }
+noted h e = record { owner = h.owner; acts = h.acts; events = e ∷ h.events; shown = h.shown }
 
 fits_noted : (t : TableView) (h : HandsView) (e : Event) (c : ℕ) (a : Act) → Fits t h c a → Fits t (noted h e) c a
 fits_noted t h e c Idle fits = tt
@@ -221,10 +221,10 @@ removed n m t h one unloading = record {
 }
 
 -- an act that is under way goes on from what it has done
-goes_from : (n : ℕ) (t : TableView) (h i : HandsView) (es : List Event) → GoesOn n h i → AreOne t (record { owner = h.owner; acts = h.acts; events = es })
-    → i.events ≡ es → IsTurn n t (record { owner = h.owner; acts = h.acts; events = es }) t i
+goes_from : (n : ℕ) (t : TableView) (h i : HandsView) (es : List Event) → GoesOn n h i → AreOne t (record { owner = h.owner; acts = h.acts; events = es; shown = h.shown })
+    → i.events ≡ es → IsTurn n t (record { owner = h.owner; acts = h.acts; events = es; shown = h.shown }) t i
 goes_from n t h i es q one events =
-    let from : HandsView = record { owner = h.owner; acts = h.acts; events = es } in
+    let from : HandsView = record { owner = h.owner; acts = h.acts; events = es; shown = h.shown } in
     begin_turn n (h.acts n) t from i one (fits_still t from i n (h.acts n) refl (λ m k busy. q.locks m k) (one.acts n))
     (record { locks = q.locks; others = q.others; own = q.own; events = events })
 

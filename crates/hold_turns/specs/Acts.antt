@@ -27,6 +27,7 @@ pub record Unlocks (call : ℕ) (old new : HandsView) : Type 0 where
   pub locks : (m c : ℕ) → old.owner m ≡ Some c → (c ≡ call) ⊎ (new.owner m ≡ Some c)
   pub acts : KeepsActs old new
   pub events : new.events ≡ old.events
+  pub shown : new.shown ≡ old.shown
 
 -- the act of the call is under way, or was not begun
 pub record MayBegin (call : ℕ) (act : Act) (old new : HandsView) : Type 0 where

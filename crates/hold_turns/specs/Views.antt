@@ -14,9 +14,10 @@ pub data Act : Type 0 where
   Loads : (m : ℕ) → Act
   Removes : (m : ℕ) → Act
 
--- Which call has the lock of each module, alive or cut off; the act of each call that is under way; and what happened. That one
--- module has one owner is what the system's locks promise.
+-- Which call has the lock of each module, alive or cut off; the act of each call that is under way; what happened; and the modules
+-- of the last look that showed all it was asked for. That one module has one owner is what the system's locks promise.
 pub record HandsView : Type 0 where
   pub owner : ℕ → Option ℕ
   pub acts : ℕ → Act
   pub events : List Event
+  pub shown : List ℕ

@@ -33,7 +33,8 @@ pub trait Hands {
     /// Whether the kernel has all these modules: a look without their locks.
     fn sees(&mut self, slots: &[usize]) -> Result<bool, Gone>
         ensures quiet { IsQuiet (view self.old) (view self.new) }
-        ensures there { IfOk result (λ there. there ≡ true → All (λ (m : ℕ). IsIn (view self.new).events m) slots.now) };
+        ensures there { IfOk result (λ there. there ≡ true → All (λ (m : ℕ). IsIn (view self.new).events m) slots.now) }
+        ensures shown { IfOk result (λ there. there ≡ true → (view self.new).shown ≡ slots.now) };
 
     /// Begins insmod(8) of a module.
     fn insmod(&mut self, call: usize, slot: usize) -> Result<(), Gone>
@@ -56,8 +57,9 @@ pub trait Hands {
     fn note_asked(&mut self, call: usize, holder: &[u8], modules: &[usize])
         ensures { Notes (Asked call holder.now modules.now) (view self.old) (view self.new) };
 
-    /// The call begins its reply: the get is done.
+    /// The call begins its reply: the get is done. A look has shown its modules right before.
     fn begin_reply(&mut self, call: usize, holder: &[u8], modules: &[usize])
+        requires shown { (view self.old).shown ≡ modules.now }
         ensures { Notes (Begun call holder.now modules.now) (view self.old) (view self.new) };
 
     /// A put is about to write that the holder gives modules back.
