@@ -4,6 +4,7 @@ use Rattle.hold_turns.specs.Views.{HandsView, Act, Idle, Loads, Removes}
 use Rattle.hold_machine.specs.declared.hands.Doing.{Doing}
 use Rattle.hold_machine.specs.declared.hands.Doing.TheVariants as doings
 use Rattle.hold_machine.specs.declared.hands.MemoryHands.{MemoryHands}
+use Rattle.hold_machine.specs.Log.{newest_first}
 use Rattle.hold_machine.specs.Locks.{owner_in}
 
 abbrev pub act_of : Doing → Act
@@ -20,6 +21,7 @@ view_of hands = record {
   owner = owner_in hands.owners.items;
   acts = λ call. act_of (doing_in hands.acts.items call);
   events = hands.kernel;
+  shown = newest_first hands.shown;
 }
 
 -- nobody has a lock, no act is under way, and nothing has happened

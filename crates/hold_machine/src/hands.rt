@@ -7,6 +7,7 @@ ghost use Rattle.hold_turns.specs.Acts.{IsQuiet, Notes, Unlocks, MayBegin, MayDo
 use crate::countdown::Countdown;
 use crate::kernel::Kernel;
 use crate::locks::{can_have_all, give_back, take};
+use crate::log::{Log, noted};
 use crate::plan::{Plan, Progress};
 use crate::story::Happened;
 use hold_turns::{Gone, Hands};
@@ -30,6 +31,8 @@ pub struct MemoryHands<'a> {
     pub(crate) owners: Vec<Option<usize>>,
     /// By call.
     pub(crate) acts: Vec<Doing>,
+    /// The modules of the last look that showed all it was asked for. Only clauses read it.
+    pub(crate) shown: Log<usize>,
     /// How acts go on that are to come.
     plan: &'a [Progress],
     answers: Countdown,
@@ -51,6 +54,7 @@ impl<'a> MemoryHands<'a> {
             kernel: Kernel::new(alloc, slots)?,
             owners: vec![in alloc; None; slots]?,
             acts: vec![in alloc; Doing::Nothing; calls]?,
+            shown: Log::new(),
             plan: plan.acts,
             answers: Countdown::of(plan.answers),
         })
@@ -145,7 +149,11 @@ impl<'a> Hands for MemoryHands<'a> {
 
     fn sees(&mut self, slots: &[usize]) -> Result<bool, Gone> {
         self.answer()?;
-        Ok(self.kernel.has_all(slots))
+        if !self.kernel.has_all(slots) {
+            return Ok(false);
+        }
+        self.shown = noted(slots);
+        Ok(true)
     }
 
     /// `Gone`: it is not begun.

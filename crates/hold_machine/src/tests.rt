@@ -199,19 +199,17 @@ fn a_load_that_fails_is_refused(rt: HostRuntime) -> Result<(), Fail> {
     Ok(())
 }
 
-/// Whether a get is answered after one that a plan ended so.
+/// Whether a get is answered after one that a plan ended so. Both modules were loaded once, by the first or by the second.
 fn goes_on_after(alloc: Global, plan: &Plan<'_>, stopped: Stopped) -> Result<bool, Fail> {
     let mut choices = Vec::new(alloc);
     add_rounds(&mut choices, 0)?;
     add_rounds(&mut choices, 1)?;
     let catalogue = read_catalogue(alloc, CATALOGUE)?;
     let run = run_in_memory(alloc, &catalogue, &[GET_BY_WEB, GET_BY_DB], &choices, plan)?;
-    let wanted = [Asks(0), Loaded(0), Loaded(1), Asks(1), Begun(1)];
     let Some(happened) = run.hands.happened() else {
         return Err(AllocError.into());
     };
-    // The first call may have loaded both, one or none.
-    let is_right = happened.len() == wanted.len() && happened[4] == Begun(1);
+    let is_right = happened.len() == 5 && happened[4] == Begun(1);
     Ok(
         is_right
             && run.calls[0].state() == State::Over(End::Stopped(stopped))
