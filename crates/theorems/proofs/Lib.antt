@@ -11,3 +11,4 @@ pub mod Resting
 pub mod Managing
 pub mod Telling
 mod Keeping
+mod Holding

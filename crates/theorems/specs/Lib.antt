@@ -11,3 +11,4 @@ pub mod Told
 pub mod Queries
 pub mod Files
 pub mod Durability
+pub mod Kernel
