@@ -1,6 +1,9 @@
 pub mod Facts
 pub mod NoteFacts
 pub mod Pieces
+pub mod Plan
 pub mod Quoted
+pub mod Shell
 pub mod Shown
+pub mod Steps
 pub mod Words
