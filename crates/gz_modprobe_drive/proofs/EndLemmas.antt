@@ -12,6 +12,8 @@ use Rattle.gz_modprobe_drive.specs.Answered.{IsAnswer, IsAnswerOf, IsAnswerWith,
 use Rattle.gz_modprobe_drive.specs.Texts.{AreRead, IsThis, Large, large_texts, or_empty, texts_with}
 use Rattle.gz_modprobe_drive.specs.Ends.{IsAnswerBy, IsReadBy, WasAnswered}
 use Rattle.gz_modprobe_drive.specs.Outputs.{WritesAnswer}
+use Rattle.gz_modprobe_drive.specs.declared.shape.Shape.{Shape}
+use Rattle.gz_modprobe_drive.specs.Shapes.{IsPart, IsWhole}
 use Rattle.gz_modprobe_drive.specs.Paths.{paths_of, words_of as path_words}
 use Rattle.kmod_index.specs.Index.{Texts}
 
@@ -64,11 +66,14 @@ answer-by machine query answer paths is = record {
 }
 
 -- with any status, a beginning of it was written
-pub answer-begun : (machine : Machine) (query : Query) (own : Answered) (kmod : Kmod) (before after : Option (List ℕ)) → machine.conf.now.kmod ≡ kmod
-    → path_words machine.paths.now ≡ paths_of machine.conf.now.kmod query → IsAnswerWith machine query own.answer → IsWritten before after own
-    → WritesAnswer kmod machine.whole query before after
-answer-begun machine query own kmod before after same paths is how changed =
-    record { answer = own.answer; is = subst (λ k. IsAnswerBy k machine.whole query own.answer) same (answer-by machine query own.answer paths is); begun = how.begun }
+pub answer-begun : (machine : Machine) (query : Query) (own : Answered) (kmod : Kmod) (shape : Shape) (before after : Option (List ℕ)) → machine.conf.now.kmod ≡ kmod
+    → machine.shape ≡ shape → path_words machine.paths.now ≡ paths_of machine.conf.now.kmod query → IsAnswerWith machine query own.answer
+    → IsWritten machine.shape before after own → WritesAnswer kmod machine.whole shape query before after
+answer-begun machine query own kmod shape before after same alike paths is how changed = record {
+  answer = own.answer;
+  is = subst (λ k. IsAnswerBy k machine.whole query own.answer) same (answer-by machine query own.answer paths is);
+  begun = subst (λ s. IsPart s own.answer before after) alike (how.begun changed);
+}
 
 -- a status of 0 says that no name failed, and that all was written
 not-failed : (failed : Bool) (how : Written) → ◌≡◌ {A = ℕ} (if failed || not (is_whole how) then 1 else 0) 0 → failed ≡ false
@@ -81,12 +86,12 @@ all-written false written.Closed e = absurd (omega arith)
 all-written false written.Failed e = absurd (omega arith)
 all-written true how e = absurd (omega arith)
 
-pub answered-well : (machine : Machine) (query : Query) (own : Answered) (kmod : Kmod) (before after : Option (List ℕ)) → machine.conf.now.kmod ≡ kmod
-    → path_words machine.paths.now ≡ paths_of machine.conf.now.kmod query → IsAnswerWith machine query own.answer → IsWritten before after own
-    → status_of own.answer own.written ≡ 0 → WasAnswered kmod machine.whole query before after
-answered-well machine query own kmod before after same paths is how zero = record {
+pub answered-well : (machine : Machine) (query : Query) (own : Answered) (kmod : Kmod) (shape : Shape) (before after : Option (List ℕ)) → machine.conf.now.kmod ≡ kmod
+    → machine.shape ≡ shape → path_words machine.paths.now ≡ paths_of machine.conf.now.kmod query → IsAnswerWith machine query own.answer
+    → IsWritten machine.shape before after own → status_of own.answer own.written ≡ 0 → WasAnswered kmod machine.whole shape query before after
+answered-well machine query own kmod shape before after same alike paths is how zero = record {
   answer = own.answer;
   is = subst (λ k. IsAnswerBy k machine.whole query own.answer) same (answer-by machine query own.answer paths is);
   well = not-failed own.answer.failed own.written zero;
-  written = how.whole (all-written own.answer.failed own.written zero);
+  written = subst (λ s. IsWhole s own.answer before after) alike (how.whole (all-written own.answer.failed own.written zero));
 }

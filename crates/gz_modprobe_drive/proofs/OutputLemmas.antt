@@ -8,6 +8,7 @@ use Rattle.gz_modprobe_drive.specs.Begun.{WritesFacts}
 use Rattle.gz_modprobe_drive.specs.Ends.{wish_by}
 use Rattle.gz_modprobe_drive.specs.Formed.{form_by}
 use Rattle.gz_modprobe_drive.specs.Outputs.{IsOutput, IsOutputFor, WereBegun, WritesAnswer}
+use Rattle.gz_modprobe_drive.specs.Shapes.{shape_of}
 use Rattle.gz_modprobe_drive.specs.Queries.{IsQueryOf, ask_of, is_lint, is_why}
 
 first-of : (a b : Bool) → a ≡ true → (a || b) ≡ true
@@ -49,7 +50,7 @@ why-output asked wish before after is tells writes =
 
 -- an answer, of a query
 pub query-output : (asked : Asked) (wish : Wish) (before after : Option (List ℕ)) (query : Query) → wish ≡ wish_by asked → is_lint wish ≡ false → is_why wish ≡ false
-    → IsQueryOf (wish_by asked) asked.switches asked.words query → WritesAnswer asked.kmod asked.switches.whole query before after → IsOutput asked before after
+    → IsQueryOf (wish_by asked) asked.switches asked.words query → WritesAnswer asked.kmod asked.switches.whole (shape_of asked.switches) query before after → IsOutput asked before after
 query-output asked wish before after query is lints tells asks writes =
     output-query (is_lint (wish_by asked) || is_why (wish_by asked)) (ask_of (wish_by asked)) query.ask asked before after
     (neither-of (is_lint (wish_by asked)) (is_why (wish_by asked)) (ap is_lint (sym is) ∙ lints) (ap is_why (sym is) ∙ tells)) asks.ask

@@ -1,6 +1,5 @@
 -- What a query is answered, by the texts and the states of a machine.
-use Rattle.std.specs.Prelude.{◌≡◌, ℕ, Bool, true, false, not, ◌||◌, ◌&&◌, List, Option, Some, None, if◌then◌else◌}
-use Rattle.std.specs.Io.KnownBytes.{Appends}
+use Rattle.std.specs.Prelude.{◌≡◌, ◌≢◌, ℕ, Bool, true, false, not, ◌||◌, ◌&&◌, List, Option, Some, None, if◌then◌else◌}
 use Rattle.text_parts.specs.Text.{texts_of}
 use Rattle.kmod_conf.specs.Configuration.{Configuration}
 use Rattle.kmod_index.specs.Index.{Texts, indexes_of}
@@ -18,10 +17,11 @@ use Rattle.kmod_query.specs.Whole.{answer_by, whole_of}
 use Rattle.kmod_query.specs.World.{facts_of}
 use Rattle.modprobe_words.specs.declared.written.Written.{Written}
 use Rattle.modprobe_words.specs.declared.written.Written.TheVariants as written
-use Rattle.modprobe_words.specs.Begun.{IsBegun}
 use Rattle.gz_modprobe_drive.specs.declared.answered.Answered.{Answered}
 use Rattle.gz_modprobe_drive.specs.declared.texts.Machine.{Machine}
+use Rattle.gz_modprobe_drive.specs.declared.shape.Shape.{Shape}
 use Rattle.gz_modprobe_drive.specs.Queries.{is_removal}
+use Rattle.gz_modprobe_drive.specs.Shapes.{IsPart, IsWhole}
 use Rattle.gz_modprobe_drive.specs.Texts.{AreRead, Large, conf_of, folder_texts, large_texts}
 
 -- what is known of a machine; no module has a file of its own at first
@@ -124,7 +124,7 @@ is_whole written.Failed = false
 abbrev pub status_of : Answer → Written → ℕ
 status_of answer how = if answer.failed || not (is_whole how) then 1 else 0
 
--- what was written of an answer: a beginning of its output, and all of it if no write failed
-pub record IsWritten (before after : Option (List ℕ)) (own : Answered) : Type 0 where
-  pub begun : IsBegun before after own.answer.output
-  pub whole : own.written ≡ written.Whole → Appends before after own.answer.output
+-- What was written of an answer: a beginning of what is told of it, if anything was, and all of it if no write failed.
+pub record IsWritten (shape : Shape) (before after : Option (List ℕ)) (own : Answered) : Type 0 where
+  pub begun : after ≢ before → IsPart shape own.answer before after
+  pub whole : own.written ≡ written.Whole → IsWhole shape own.answer before after

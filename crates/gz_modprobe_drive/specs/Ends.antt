@@ -1,6 +1,5 @@
 -- How a run ends, by its words.
 use Rattle.std.specs.Prelude.{◌≡◌, ℕ, Bool, true, false, not, ◌||◌, if◌then◌else◌, nat_lt, List, [], ◌++◌, length, Option, Some, None, unwrap_or}
-use Rattle.std.specs.Io.KnownBytes.{Appends}
 use Rattle.kmod_version.specs.declared.kmod.Kmod.{Kmod}
 use Rattle.kmod_query.specs.Answers.{Answer}
 use Rattle.kmod_query.specs.declared.query.Query.{Query}
@@ -18,6 +17,8 @@ use Rattle.gz_modprobe_drive.specs.Formed.{form_by}
 use Rattle.gz_modprobe_drive.specs.Leads.{WasTold}
 use Rattle.gz_modprobe_drive.specs.Linted.{WasLinted}
 use Rattle.gz_modprobe_drive.specs.Queries.{IsQueryOf, is_lint, is_why}
+use Rattle.gz_modprobe_drive.specs.declared.shape.Shape.{Shape}
+use Rattle.gz_modprobe_drive.specs.Shapes.{IsWhole, shape_of}
 use Rattle.gz_modprobe_drive.specs.Texts.{conf_of}
 
 -- the words of a run: those of MODPROBE_OPTIONS, and then those of the command line (modprobe(8))
@@ -39,12 +40,12 @@ pub record IsAnswerBy (kmod : Kmod) (whole : Bool) (query : Query) (answer : Ans
   pub paths : path_words known.paths ≡ paths_of kmod query
   pub is : IsAnswer known (record { whole = whole; holders = holders }) query answer
 
--- A query was answered well: standard output has grown by such an answer, in which no name failed.
-pub record WasAnswered (kmod : Kmod) (whole : Bool) (query : Query) (before after : Option (List ℕ)) : Type 0 where
+-- A query was answered well: standard output has grown by such an answer, as it is asked for, in which no name failed.
+pub record WasAnswered (kmod : Kmod) (whole : Bool) (shape : Shape) (query : Query) (before after : Option (List ℕ)) : Type 0 where
   pub answer : Answer
   pub is : IsAnswerBy kmod whole query answer
   pub well : answer.failed ≡ false
-  pub written : Appends before after answer.output
+  pub written : IsWhole shape answer before after
 
 -- what a command line wishes for
 abbrev pub wish_by : Asked → Wish
@@ -54,7 +55,7 @@ wish_by asked = wish_of asked.switches (nat_lt 0 (length asked.words))
 pub record WereAnswered (asked : Asked) (before after : Option (List ℕ)) : Type 0 where
   pub query : Query
   pub asks : IsQueryOf (wish_by asked) asked.switches asked.words query
-  pub answered : WasAnswered asked.kmod asked.switches.whole query before after
+  pub answered : WasAnswered asked.kmod asked.switches.whole (shape_of asked.switches) query before after
 
 -- A lint ends well if nothing was noted, what leads to names if facts of it were written, and a query if it was answered
 -- well.

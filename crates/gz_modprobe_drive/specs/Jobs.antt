@@ -12,6 +12,7 @@ use Rattle.gz_modprobe_drive.specs.Formed.{form_by}
 use Rattle.gz_modprobe_drive.specs.Leads.{WasTold}
 use Rattle.gz_modprobe_drive.specs.Linted.{WasLinted}
 use Rattle.gz_modprobe_drive.specs.Outputs.{WasBegun}
+use Rattle.gz_modprobe_drive.specs.Shapes.{shape_of}
 use Rattle.gz_modprobe_drive.specs.Queries.{IsQueryOf, is_lint, is_why}
 
 -- it is what is wished for, as the options and the words of a command line say
@@ -30,13 +31,13 @@ worst_job (Answer query) = 1
 abbrev pub JobEnds : Job → Asked → Option (List ℕ) → Option (List ℕ) → Type 0
 JobEnds Lint asked before after = WasLinted asked.kmod before after
 JobEnds Why asked before after = WasTold (form_by asked.switches.explain) before after
-JobEnds (Answer query) asked before after = WasAnswered asked.kmod asked.switches.whole query before after
+JobEnds (Answer query) asked before after = WasAnswered asked.kmod asked.switches.whole (shape_of asked.switches) query before after
 
 -- a beginning of what it writes was written
 abbrev pub JobBegun : Job → Asked → Option (List ℕ) → Option (List ℕ) → Type 0
 JobBegun Lint asked before after = AreBegun (form_by asked.switches.explain) before after
 JobBegun Why asked before after = AreBegun (form_by asked.switches.explain) before after
-JobBegun (Answer query) asked before after = WasBegun asked.kmod asked.switches.whole query before after
+JobBegun (Answer query) asked before after = WasBegun asked.kmod asked.switches.whole (shape_of asked.switches) query before after
 
 -- if anything was written, it is such a beginning
 abbrev pub JobWrites : Job → Asked → Option (List ℕ) → Option (List ℕ) → Type 0

@@ -15,6 +15,7 @@ pub mod Origins
 pub mod Outputs
 pub mod Paths
 pub mod Queries
+pub mod Shapes
 pub mod Sys
 pub mod Texts
 pub mod Tree

@@ -5,29 +5,30 @@ use Rattle.kmod_query.specs.Answers.{Answer}
 use Rattle.kmod_query.specs.declared.query.Ask.{Ask}
 use Rattle.kmod_query.specs.declared.query.Query.{Query}
 use Rattle.modprobe_words.specs.Asked.{Asked, asked_by}
-use Rattle.modprobe_words.specs.Begun.{IsBegun}
 use Rattle.modprobe_words.specs.Endings.{Ending, IsShownPart, first_ending, shown_by}
 use Rattle.modprobe_words.specs.Words.{items}
 use Rattle.gz_modprobe_drive.specs.Begun.{WritesFacts}
 use Rattle.gz_modprobe_drive.specs.Ends.{IsAnswerBy, is_root_empty, wish_by}
 use Rattle.gz_modprobe_drive.specs.Formed.{form_by}
+use Rattle.gz_modprobe_drive.specs.declared.shape.Shape.{Shape}
+use Rattle.gz_modprobe_drive.specs.Shapes.{IsPart, shape_of}
 use Rattle.gz_modprobe_drive.specs.Queries.{IsQueryOf, ask_of, is_lint, is_why}
 
 -- a beginning of an answer to a query was written, whether or not names failed in it
-pub record WasBegun (kmod : Kmod) (whole : Bool) (query : Query) (before after : Option (List ℕ)) : Type 0 where
+pub record WasBegun (kmod : Kmod) (whole : Bool) (shape : Shape) (query : Query) (before after : Option (List ℕ)) : Type 0 where
   pub answer : Answer
   pub is : IsAnswerBy kmod whole query answer
-  pub begun : IsBegun before after answer.output
+  pub begun : IsPart shape answer before after
 
 -- if anything was written, it is such a beginning
-abbrev pub WritesAnswer : Kmod → Bool → Query → Option (List ℕ) → Option (List ℕ) → Type 0
-WritesAnswer kmod whole query before after = after ≢ before → WasBegun kmod whole query before after
+abbrev pub WritesAnswer : Kmod → Bool → Shape → Query → Option (List ℕ) → Option (List ℕ) → Type 0
+WritesAnswer kmod whole shape query before after = after ≢ before → WasBegun kmod whole shape query before after
 
 -- what is asked for is a query, and a beginning of an answer to it was written
 pub record WereBegun (asked : Asked) (before after : Option (List ℕ)) : Type 0 where
   pub query : Query
   pub asks : IsQueryOf (wish_by asked) asked.switches asked.words query
-  pub begun : WasBegun asked.kmod asked.switches.whole query before after
+  pub begun : WasBegun asked.kmod asked.switches.whole (shape_of asked.switches) query before after
 
 -- A wish that is refused writes nothing. A query writes no more than an answer to it, and a lint, and what leads to names,
 -- no more than lines of facts.

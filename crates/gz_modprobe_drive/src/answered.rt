@@ -8,10 +8,11 @@ use crate::explained::explain;
 use crate::folder::index_by;
 use crate::queries::is_removal;
 use crate::texts::{Machine, world_of};
+use crate::told::write_answer;
 use kmod_conf::Conf;
 use kmod_index::DepTable;
 use kmod_query::{Answer, Asked, Query, World, answer_to, whole_removal};
-use modprobe_words::{Messages, Written, write_whole};
+use modprobe_words::{Messages, Written};
 use std::alloc::{AllocError, Global};
 use std::io::Write;
 
@@ -70,7 +71,7 @@ pub(crate) fn answer_machine<O: Write, E: Write>(
     requires lines { IfSome lines (λ lines. lines.now ≡ dependencies_of machine.now.modules.now.dep.items) }
     requires enough { IsEnough machine.now query.now }
     ensures answer { IfOk result (λ own. IsAnswerOf machine.now query.now own.answer) }
-    ensures written { IfOk result (IsWritten (O.contents output.old) (O.contents output.new)) }
+    ensures written { IfOk result (IsWritten machine.now.shape (O.contents output.old) (O.contents output.new)) }
     ensures kept { OnErr result (O.contents output.new ≡ O.contents output.old) }
 {
     let index = index_by(alloc, machine.modules, machine.later, query.words, lines)?;
@@ -82,7 +83,7 @@ pub(crate) fn answer_machine<O: Write, E: Write>(
         machine.paths,
     );
     let answer = answer_for(alloc, machine, &world, query)?;
-    let written = write_whole(output, answer.output());
+    let written = write_answer(alloc, machine, &world, query, &answer, output, messages)?;
     explain(alloc, machine, &world, query, messages);
     Ok(Answered { answer, written })
 }

@@ -4,6 +4,7 @@ ghost use Rattle.kmod_index.specs.Dependencies.{dependencies_of};
 ghost use Rattle.gz_modprobe_drive.specs.Answered.{IsAnswerWith, IsWritten};
 ghost use Rattle.gz_modprobe_drive.specs.Ends.{WasAnswered};
 ghost use Rattle.gz_modprobe_drive.specs.Outputs.{WasBegun, WritesAnswer};
+ghost use Rattle.gz_modprobe_drive.specs.Shapes.{shape_of};
 ghost use Rattle.gz_modprobe_drive.specs.Texts.{IsConfOf};
 
 use crate::answered::{Answered, answer_machine};
@@ -14,6 +15,7 @@ use crate::folder::FEW_NAMES;
 use crate::paths::read_paths;
 use crate::queries::{asks_states, is_removal, looks_up_modules};
 use crate::run::Run;
+use crate::shape::shape_of;
 use crate::sys::add_states;
 use crate::texts::Machine;
 use kmod_conf::Conf;
@@ -45,7 +47,7 @@ fn answer_late<S: System, O: Write, E: Write>(
     requires conf { IsConfOf machine.now.conf.now conf.now }
     requires lines { IfSome lines (λ lines. lines.now ≡ dependencies_of machine.now.modules.now.dep.items) }
     ensures answer { IfOk result (λ own. IsAnswerWith machine.now query.now own.answer) }
-    ensures written { IfOk result (IsWritten (O.contents output.old) (O.contents output.new)) }
+    ensures written { IfOk result (IsWritten machine.now.shape (O.contents output.old) (O.contents output.new)) }
     ensures kept { OnErr result (O.contents output.new ≡ O.contents output.old) }
 {
     let alloc = host.alloc();
@@ -71,7 +73,7 @@ fn answer_early<S: System, O: Write, E: Write>(
     requires conf { IsConfOf machine.now.conf.now conf.now }
     requires unread { machine.now.later.now.alias ≡ None }
     ensures answer { IfOk result (λ own. IsAnswerWith machine.now query.now own.answer) }
-    ensures written { IfOk result (IsWritten (O.contents output.old) (O.contents output.new)) }
+    ensures written { IfOk result (IsWritten machine.now.shape (O.contents output.old) (O.contents output.new)) }
     ensures kept { OnErr result (O.contents output.new ≡ O.contents output.old) }
 {
     if messages.explains || query.words.len() > FEW_NAMES || !looks_up_modules(query) {
@@ -95,8 +97,8 @@ pub(crate) fn answer_query<S: System, O: Write, E: Write>(
     requires kmod { run.now.texts.now.kmod ≡ run.now.asked.now.kmod }
     requires conf { IsConfOf run.now.texts.now run.now.conf.now }
     ensures status { IfOk result (λ status. status ≤ 1) }
-    ensures well { IfOk result (λ status. status ≡ 0 → WasAnswered run.now.asked.now.kmod run.now.asked.now.switches.whole query.now (O.contents output.old) (O.contents output.new)) }
-    ensures begun { WritesAnswer run.now.asked.now.kmod run.now.asked.now.switches.whole query.now (O.contents output.old) (O.contents output.new) }
+    ensures well { IfOk result (λ status. status ≡ 0 → WasAnswered run.now.asked.now.kmod run.now.asked.now.switches.whole (shape_of run.now.asked.now.switches) query.now (O.contents output.old) (O.contents output.new)) }
+    ensures begun { WritesAnswer run.now.asked.now.kmod run.now.asked.now.switches.whole (shape_of run.now.asked.now.switches) query.now (O.contents output.old) (O.contents output.new) }
 {
     let mut states = States::new(run.host.alloc());
     if asks_states(query.ask) {
@@ -118,6 +120,8 @@ pub(crate) fn answer_query<S: System, O: Write, E: Write>(
         paths: &paths,
         evidence: &evidence,
         whole: run.asked.switches.whole,
+        shape: shape_of(run.asked.switches),
+        root: run.asked.root.unwrap_or(b""),
     };
     let answered = answer_early(run.host, &machine, run.conf, query, output, messages)?;
     tell_unwritten(answered.written, messages);

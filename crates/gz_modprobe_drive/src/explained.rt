@@ -1,7 +1,11 @@
 //! Why an answer is as it is, for people or for programs.
+ghost use Rattle.std.specs.Prelude.{IfOk, IfSome};
+ghost use Rattle.gz_modprobe_drive.specs.Shapes.{AreFacts};
 
 use crate::formed::lines_by;
+use crate::shape::Shape;
 use crate::texts::Machine;
+use answer_facts::{Origin, origin_lines};
 use answer_reasons::{Sources, explanation};
 use bumpalo::Bump;
 use kmod_query::{Query, World};
@@ -9,24 +13,36 @@ use modprobe_words::{Form, Level, Messages};
 use std::alloc::{AllocError, Global};
 use std::io::Write;
 
-/// Apart from `explained`, whose arguments have more lifetimes than the prover takes for `Sources`.
+/// The facts of an explanation: in JSON with the machine that they are of, or in a form. Apart from `explained`, whose arguments
+/// have more lifetimes than the prover takes for `Sources`.
 fn lines_of<'a>(
     alloc: Global,
     form: Form,
+    origin: Option<Origin<'_>>,
     sources: &Sources<'a>,
     world: &World<'a>,
     query: &Query<'a>,
-) -> Result<Vec<u8>, AllocError> {
+) -> Result<Vec<u8>, AllocError>
+    ensures { IfOk result (λ text. IfSome origin.entry (λ own. AreFacts own text.items)) }
+{
     let facts = explanation(alloc, sources, world, query)?;
-    lines_by(alloc, form, &facts)
+    match origin {
+        Some(origin) => origin_lines(alloc, origin, &facts),
+        None => lines_by(alloc, form, &facts),
+    }
 }
 
-fn explained(
+/// Why an answer is as it is, in JSON with the machine that it is of, or in the form that is asked for. It fails only if memory
+/// runs out.
+pub(crate) fn explained(
     alloc: Global,
     machine: &Machine,
+    origin: Option<Origin<'_>>,
     world: &World<'_>,
     query: &Query<'_>,
-) -> Result<Vec<u8>, AllocError> {
+) -> Result<Vec<u8>, AllocError>
+    ensures { IfOk result (λ text. IfSome origin.entry (λ own. AreFacts own text.items)) }
+{
     let paths = machine.conf.paths(alloc)?;
     let texts = Bump::new(alloc);
     let sources = Sources {
@@ -41,10 +57,10 @@ fn explained(
         devices: &[],
         texts: &texts,
     };
-    lines_of(alloc, machine.evidence.form, &sources, world, query)
+    lines_of(alloc, machine.evidence.form, origin, &sources, world, query)
 }
 
-/// Tells why an answer is as it is, if that is asked for.
+/// Tells why an answer is as it is, if that is asked for and not on standard output.
 pub(crate) fn explain<E: Write>(
     alloc: Global,
     machine: &Machine,
@@ -52,10 +68,10 @@ pub(crate) fn explain<E: Write>(
     query: &Query<'_>,
     messages: &mut Messages<'_, E>,
 ) {
-    if !messages.explains {
+    if !messages.explains || matches!(machine.shape, Shape::Json) {
         return;
     }
-    match explained(alloc, machine, world, query) {
+    match explained(alloc, machine, None, world, query) {
         Ok(lines) => {
             let _ = messages.errors.write_all(&lines);
         }

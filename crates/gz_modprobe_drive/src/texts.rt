@@ -3,6 +3,7 @@ ghost use Rattle.std.specs.Prelude.{◌≡◌};
 ghost use Rattle.gz_modprobe_drive.specs.Answered.{known_by, known_of};
 
 use crate::evidence::Evidence;
+use crate::shape::Shape;
 use kmod_conf::Conf;
 use kmod_index::Index;
 use kmod_query::{PathWord, States, World};
@@ -22,6 +23,10 @@ pub(crate) struct Machine<'a> {
     pub(crate) evidence: &'a Evidence,
     /// Whether a removal is answered as it is made, and not as a dry run shows it.
     pub(crate) whole: bool,
+    /// What standard output gets of the answer.
+    pub(crate) shape: Shape,
+    /// The folder that stands for `/`, empty for the machine itself.
+    pub(crate) root: &'a [u8],
 }
 
 /// What queries are answered from, by its parts. No module has a file of its own.

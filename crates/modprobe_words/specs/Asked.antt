@@ -11,13 +11,13 @@ use Rattle.modprobe_words.specs.declared.options.Switch.TheVariants as switch
 use Rattle.modprobe_words.specs.declared.options.Valued.{Valued}
 use Rattle.modprobe_words.specs.declared.options.Valued.TheVariants as valued
 use Rattle.modprobe_words.specs.declared.form.Form.{Form}
-use Rattle.modprobe_words.specs.declared.form.Form.TheVariants.{Text}
+use Rattle.modprobe_words.specs.declared.form.Form.TheVariants.{Json, Text}
 use Rattle.modprobe_words.specs.declared.switches.Switches.{Switches}
 use Rattle.modprobe_words.specs.declared.asked.Asked.{Asked as CodeAsked}
 use Rattle.modprobe_words.specs.Forms.{form_of}
 use Rattle.modprobe_words.specs.Words.{Item, plain, with_value, operand, fault}
 
--- one option more; `-q` sets the verbosity to 0 and `-v` adds 1 to it
+-- One option more. `-q` sets the verbosity to 0 and `-v` adds 1 to it; `--json` is `--explain=json` too.
 abbrev pub with_switch : Switches → SwitchOption → Switches
 with_switch s switch.All = record s { all = true }
 with_switch s switch.Remove = record s { remove = true }
@@ -37,6 +37,8 @@ with_switch s switch.Explain = record s { explain = Some Text }
 with_switch s switch.Lint = record s { lint = true }
 with_switch s switch.Whole = record s { whole = true }
 with_switch s switch.Why = record s { why = true }
+with_switch s switch.Json = record s { json = true; explain = Some Json }
+with_switch s switch.Shell = record s { shell = true }
 with_switch s switch.Force = s
 with_switch s switch.ForceModversion = s
 with_switch s switch.ForceVermagic = s
@@ -62,6 +64,8 @@ no_switch =
       lint = false;
       whole = false;
       why = false;
+      json = false;
+      shell = false;
       verbosity = 4;
     }
 

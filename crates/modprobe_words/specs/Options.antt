@@ -1,4 +1,5 @@
--- The options of modprobe(8), and `--explain`, `--lint`, `--root`, `--as`, `--whole` and `--why`, which it has not.
+-- The options of modprobe(8), and `--explain`, `--lint`, `--root`, `--as`, `--whole`, `--why`, `--json` and `--shell`, which it
+-- has not.
 use Rattle.std.specs.Prelude.{ℕ, Bool, true, false, ◌+◌, ◌==◌, if◌then◌else◌, List, [], ◌∷◌, codes, Option, Some, None}
 use Rattle.modprobe_words.specs.declared.options.Switch.{Switch}
 use Rattle.modprobe_words.specs.declared.options.Switch.TheVariants as switch
@@ -7,7 +8,7 @@ use Rattle.modprobe_words.specs.declared.options.Valued.TheVariants as valued
 use Rattle.modprobe_words.specs.declared.options.Meaning.{Meaning}
 use Rattle.modprobe_words.specs.declared.options.Meaning.TheVariants.{Plain, WithValue}
 use Rattle.modprobe_words.specs.declared.options.LongOption.{LongOption}
-use Rattle.modprobe_words.specs.declared.options.LongOption.TheVariants.{AllWord, RemoveWord, RemoveDependenciesWord, RemoveHoldersWord, WaitWord, ResolveAliasWord, FirstTimeWord, IgnoreInstallWord, IgnoreRemoveWord, UseBlacklistWord, ForceWord, ForceModversionWord, ForceVermagicWord, ShowDependsWord, ShowconfigWord, ShowConfigWord, ShowModversionsWord, DumpModversionsWord, ShowExportsWord, DryRunWord, ShowWord, ConfigWord, DirnameWord, SetVersionWord, SyslogWord, QuietWord, VerboseWord, VersionWord, HelpWord, ExplainWord, LintWord, RootWord, AsWord, WholeWord, WhyWord}
+use Rattle.modprobe_words.specs.declared.options.LongOption.TheVariants.{AllWord, RemoveWord, RemoveDependenciesWord, RemoveHoldersWord, WaitWord, ResolveAliasWord, FirstTimeWord, IgnoreInstallWord, IgnoreRemoveWord, UseBlacklistWord, ForceWord, ForceModversionWord, ForceVermagicWord, ShowDependsWord, ShowconfigWord, ShowConfigWord, ShowModversionsWord, DumpModversionsWord, ShowExportsWord, DryRunWord, ShowWord, ConfigWord, DirnameWord, SetVersionWord, SyslogWord, QuietWord, VerboseWord, VersionWord, HelpWord, ExplainWord, LintWord, RootWord, AsWord, WholeWord, WhyWord, JsonWord, ShellWord}
 
 -- the option of a letter
 unfoldable pub meaning_of_letter : ℕ → Option Meaning
@@ -58,6 +59,8 @@ switch_number switch.Explain = 20
 switch_number switch.Lint = 21
 switch_number switch.Whole = 22
 switch_number switch.Why = 23
+switch_number switch.Json = 24
+switch_number switch.Shell = 25
 
 abbrev pub valued_number : Valued → ℕ
 valued_number valued.Wait = 0
@@ -110,6 +113,8 @@ word_of RootWord = codes "root"
 word_of AsWord = codes "as"
 word_of WholeWord = codes "whole"
 word_of WhyWord = codes "why"
+word_of JsonWord = codes "json"
+word_of ShellWord = codes "shell"
 
 unfoldable pub meaning_of : LongOption → Meaning
 meaning_of AllWord = Plain switch.All
@@ -147,6 +152,8 @@ meaning_of RootWord = WithValue valued.Root
 meaning_of AsWord = WithValue valued.As
 meaning_of WholeWord = Plain switch.Whole
 meaning_of WhyWord = Plain switch.Why
+meaning_of JsonWord = Plain switch.Json
+meaning_of ShellWord = Plain switch.Shell
 
 -- in the order of `modprobe --help`
 unfoldable pub long_options : List LongOption
@@ -157,14 +164,16 @@ long_options =
     ∷ ShowConfigWord ∷ ShowModversionsWord ∷ DumpModversionsWord ∷ ShowExportsWord ∷ DryRunWord
     ∷ ShowWord ∷ ConfigWord ∷ DirnameWord ∷ SetVersionWord ∷ SyslogWord
     ∷ QuietWord ∷ VerboseWord ∷ VersionWord ∷ HelpWord ∷ ExplainWord
-    ∷ LintWord ∷ RootWord ∷ AsWord ∷ WholeWord ∷ WhyWord ∷ []
+    ∷ LintWord ∷ RootWord ∷ AsWord ∷ WholeWord ∷ WhyWord
+    ∷ JsonWord ∷ ShellWord ∷ []
 
--- An option that may be cut. `--as`, `--whole` and `--why` may not, so that `--a` is `--all` and `--w` is `--wait`, as with
--- modprobe.
+-- An option that may be cut. `--as`, `--whole`, `--why` and `--shell` may not, so that `--a` is `--all` and `--w` is `--wait`, as
+-- with modprobe.
 abbrev pub may_be_cut : LongOption → Bool
 may_be_cut AsWord = false
 may_be_cut WholeWord = false
 may_be_cut WhyWord = false
+may_be_cut ShellWord = false
 may_be_cut option = true
 
 -- what an option without a value stands for if it has one all the same; only `--explain` and `--lint` may have one

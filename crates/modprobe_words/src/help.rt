@@ -42,6 +42,8 @@ Options of queries:
       --root=DIR              Read all files, of /etc, /sys and /proc too, below DIR
       --as=VERSION            Answer as kmod 30 or as kmod 34; without it as 34
       --explain[=json]        Say on standard error which lines gave the answer
+      --json                  Print the answer, and what gave it, as JSON
+      --shell                 Print the lines quoted for sh, each insmod once
       --whole                 With -r: what the removal itself would do
 
 General options:
@@ -54,7 +56,6 @@ Accepted without effect: -f, --force, --force-modversion, --force-vermagic,
 -s, --syslog and -w, --wait=MSEC.
 Options of MODPROBE_OPTIONS come first.
 
-Example, all that would be done for a device, done by a shell if each line begins
-with insmod and holds nothing that a shell takes for its own, as a quote or a $:
-  gz-modprobe -n -v snd_hda_intel | sh
+Example, all that would be done for a device, done by a shell:
+  gz-modprobe --shell -n -v snd_hda_intel | sh -e
 ";

@@ -1,4 +1,5 @@
-//! The options of modprobe(8), and six more: `--explain`, `--lint`, `--root`, `--as`, `--whole` and `--why`.
+//! The options of modprobe(8), and eight more: `--explain`, `--lint`, `--root`, `--as`, `--whole`, `--why`, `--json` and
+//! `--shell`.
 ghost use Rattle.std.specs.Prelude.{◌≡◌};
 ghost use Rattle.modprobe_words.specs.Options.{kind_of, may_be_cut, meaning_of_letter, meaning_of, word_of, valued_form};
 
@@ -29,6 +30,8 @@ pub enum Switch {
     Lint,
     Whole,
     Why,
+    Json,
+    Shell,
 }
 
 /// An option with a value.
@@ -89,10 +92,12 @@ pub enum LongOption {
     AsWord,
     WholeWord,
     WhyWord,
+    JsonWord,
+    ShellWord,
 }
 
 /// The options by words, in the order of `modprobe --help`, and then those that modprobe has not.
-pub(crate) const LONG_OPTIONS: [LongOption; 35] = [
+pub(crate) const LONG_OPTIONS: [LongOption; 37] = [
     LongOption::AllWord,
     LongOption::RemoveWord,
     LongOption::RemoveDependenciesWord,
@@ -128,6 +133,8 @@ pub(crate) const LONG_OPTIONS: [LongOption; 35] = [
     LongOption::AsWord,
     LongOption::WholeWord,
     LongOption::WhyWord,
+    LongOption::JsonWord,
+    LongOption::ShellWord,
 ];
 
 /// The option of a letter.
@@ -213,17 +220,19 @@ impl LongOption {
             LongOption::AsWord => b"as",
             LongOption::WholeWord => b"whole",
             LongOption::WhyWord => b"why",
+            LongOption::JsonWord => b"json",
+            LongOption::ShellWord => b"shell",
         }
     }
 
-    /// Whether a beginning of the word stands for it. `--as`, `--whole` and `--why` are not cut, so that `--a` is `--all` and
-    /// `--w` is `--wait`, as with modprobe.
+    /// Whether a beginning of the word stands for it. `--as`, `--whole`, `--why` and `--shell` are not cut, so that `--a` is
+    /// `--all` and `--w` is `--wait`, as with modprobe.
     pub(crate) fn may_be_cut(self) -> bool
         ensures { result ≡ may_be_cut self }
     {
         !matches!(
             self,
-            LongOption::AsWord | LongOption::WholeWord | LongOption::WhyWord
+            LongOption::AsWord | LongOption::WholeWord | LongOption::WhyWord | LongOption::ShellWord
         )
     }
 
@@ -281,6 +290,8 @@ impl LongOption {
             LongOption::AsWord => Meaning::WithValue(Valued::As),
             LongOption::WholeWord => Meaning::Plain(Switch::Whole),
             LongOption::WhyWord => Meaning::Plain(Switch::Why),
+            LongOption::JsonWord => Meaning::Plain(Switch::Json),
+            LongOption::ShellWord => Meaning::Plain(Switch::Shell),
         }
     }
 }

@@ -27,6 +27,10 @@ pub struct Switches {
     pub whole: bool,
     /// What leads to names is asked for.
     pub why: bool,
+    /// Standard output has JSON, and what explains the answer goes there too.
+    pub json: bool,
+    /// The lines of an answer are those of a shell.
+    pub shell: bool,
     /// 4 at first.
     pub verbosity: u64,
 }
@@ -51,6 +55,8 @@ impl Switches {
             lint: false,
             whole: false,
             why: false,
+            json: false,
+            shell: false,
             verbosity: 4,
         }
     }
@@ -78,6 +84,11 @@ impl Switches {
             Switch::Lint => switches.lint = true,
             Switch::Whole => switches.whole = true,
             Switch::Why => switches.why = true,
+            Switch::Json => {
+                switches.json = true;
+                switches.explain = Some(Form::Json);
+            }
+            Switch::Shell => switches.shell = true,
             Switch::Force
             | Switch::ForceModversion
             | Switch::ForceVermagic
