@@ -20,6 +20,9 @@ use Rattle.answer_facts.specs.declared.removal_fact.RemovalFact.TheVariants as o
 use Rattle.answer_facts.specs.declared.file_fact.Unread.{Unread}
 use Rattle.answer_facts.specs.declared.file_fact.FileFact.{FileFact}
 use Rattle.answer_facts.specs.declared.file_fact.FileFact.TheVariants as of_file_fact
+use Rattle.answer_facts.specs.declared.change_fact.ChangeFact.{ChangeFact}
+use Rattle.answer_facts.specs.declared.change_fact.ChangeFact.TheVariants as of_change_fact
+use Rattle.answer_facts.specs.declared.origin.Origin.{Origin}
 use Rattle.answer_facts.specs.declared.spot.Spot.{Spot}
 use Rattle.answer_facts.specs.declared.spot.Spot.TheVariants as spot_is
 use Rattle.answer_facts.specs.declared.fact.Fact.{Fact}
@@ -150,6 +153,15 @@ file_fact_pieces whom (of_file_fact.Unread reason) = unread_pieces whom reason
 file_fact_pieces whom of_file_fact.CarriageReturn =
     sentence (codes "carriage_return") (words whom) (words (codes "a CR ends its lines, and counts as part of their last words") ∷ [])
 
+-- a line that only one of two machines answers; the machine is told to programs
+abbrev pub change_pieces : List ℕ → List ℕ → List ℕ → List ℕ → Origin → List Piece
+change_pieces word mark whom line origin =
+    sentence word (field (codes "name") whom) (words mark ∷ field (codes "line") line ∷ tag (codes "release") origin.release.now ∷ tag (codes "root") origin.root.now ∷ [])
+
+abbrev pub change_fact_pieces : List ℕ → ChangeFact → List Piece
+change_fact_pieces whom (of_change_fact.Taken line origin) = change_pieces (codes "taken") (codes "- ") whom line.now origin
+change_fact_pieces whom (of_change_fact.Added line origin) = change_pieces (codes "added") (codes "+ ") whom line.now origin
+
 -- where something stands
 abbrev pub spot_pieces : Spot → List Piece
 spot_pieces (spot_is.Line file line) =
@@ -170,6 +182,7 @@ what_pieces whom (of.State fact) = state_fact_pieces whom fact
 what_pieces whom (of.Removal fact) = removal_fact_pieces whom fact
 what_pieces whom (of.File fact) = file_fact_pieces whom fact
 what_pieces whom (of.Note fact) = note_fact_pieces whom fact
+what_pieces whom (of.Change fact) = change_fact_pieces whom fact
 
 -- a fact as the parts of one line
 abbrev pub pieces_of_fact : Fact → List Piece

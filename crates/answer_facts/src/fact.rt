@@ -3,6 +3,7 @@ ghost use Rattle.std.specs.Prelude.{◌≡◌, IfOk};
 ghost use Rattle.answer_facts.specs.Facts.{pieces_of_fact, what_pieces};
 ghost use Rattle.answer_facts.specs.Pieces.{pieces_of};
 
+use crate::change_fact::ChangeFact;
 use crate::file_fact::FileFact;
 use crate::idle_fact::IdleFact;
 use crate::lead_fact::LeadFact;
@@ -30,6 +31,7 @@ pub enum What<'a> {
     Removal(RemovalFact<'a>),
     File(FileFact<'a>),
     Note(NoteFact<'a>),
+    Change(ChangeFact<'a>),
 }
 
 /// A fact: of whom something is said, what, and where that stands.
@@ -56,6 +58,7 @@ impl<'a> What<'a> {
             What::Removal(fact) => fact.pieces(alloc, whom),
             What::File(fact) => fact.pieces(alloc, whom),
             What::Note(fact) => fact.pieces(alloc, whom),
+            What::Change(fact) => fact.pieces(alloc, whom),
         }
     }
 }

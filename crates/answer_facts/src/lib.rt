@@ -2,6 +2,7 @@
 #![tactic(auto)]
 
 mod blacklist;
+mod change_fact;
 mod fact;
 mod file_fact;
 mod idle_fact;
@@ -25,6 +26,7 @@ mod state_fact;
 mod step;
 
 pub use blacklist::Blacklist;
+pub use change_fact::ChangeFact;
 pub use fact::{Fact, What};
 pub use file_fact::{FileFact, Unread};
 pub use idle_fact::{IdleFact, Setting};
