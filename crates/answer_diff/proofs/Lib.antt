@@ -1,0 +1,2 @@
+pub mod AnswerLemmas
+pub mod LineLemmas
