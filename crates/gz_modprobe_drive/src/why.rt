@@ -8,7 +8,7 @@ ghost use Rattle.gz_modprobe_drive.specs.Leads.{AreLines, WasTold};
 use crate::absences::certain_facts;
 use crate::answering::tell_unwritten;
 use crate::devices::read_devices;
-use crate::folder::index_of;
+use crate::folder::whole_index;
 use crate::formed::{form_by, lines_by};
 use crate::judged::judge;
 use crate::missed::is_all_read;
@@ -23,19 +23,6 @@ use modprobe_files::{LaterTexts, System, read_later};
 use modprobe_words::{Messages, Written, write_whole};
 use std::alloc::{AllocError, Global};
 use std::io::Write;
-
-/// The names, and the aliases of devices: all that is looked up in any case.
-fn looked_up<'a>(
-    alloc: Global,
-    names: &[&'a [u8]],
-    devices: &'a [Device],
-) -> Result<Vec<&'a [u8]>, AllocError> {
-    let mut all = Vec::from_slice(alloc, names)?;
-    for device in devices {
-        all.push(device.alias.as_slice())?;
-    }
-    Ok(all)
-}
 
 /// The query that has these names, all of them.
 fn query_of<'a>(names: &'a [&'a [u8]]) -> Query<'a> {
@@ -123,8 +110,7 @@ fn tell_leads<S: System, O: Write, E: Write>(
     let alloc = run.host.alloc();
     let devices = read_devices(run.host)?;
     run.tell_bad_lines(messages)?;
-    let words = looked_up(alloc, &run.asked.words, &devices)?;
-    let index = index_of(alloc, run.modules, later, &words)?;
+    let index = whole_index(alloc, run.modules, later)?;
     let leads = lead_lines(run, &index, &devices, tree)?;
     Ok(write_leads(&leads, output, messages))
 }
