@@ -18,7 +18,6 @@ ask "gz-modprobe --explain=json -D nvme 2>&1 >/dev/null |
     grep '^{' | jq -r 'select(.what == \"needed_by\" and .by == \"nvme\" and .direct).module'"
 # The answer, each line of it as an object, and then the facts. For a shell each file is inserted once.
 ask "gz-modprobe --json -D nvme | jq -r 'select(.what == \"insmod\" and .options != \"\").path'"
-ask "gz-modprobe --shell -D nvme | wc -l"
 ask "gz-modprobe --shell -D e1000e 'eee=\"x y\"' | tail -n 1"
 # A configuration that names a module of another kernel.
 printf '# The speaker makes no sound.\nblacklist snd-pcsp\n' >machine/modprobe.d/own.conf

@@ -5,6 +5,7 @@ pub mod Linted
 pub mod Masks
 pub mod Missed
 pub mod Begun
+pub mod Changes
 pub mod Ends
 pub mod Evidence
 pub mod Formed

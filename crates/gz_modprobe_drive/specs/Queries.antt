@@ -18,6 +18,7 @@ ask_of wishes.Remove = Some asks.Remove
 ask_of wishes.ShowRemoval = Some asks.ShowRemoval
 ask_of wishes.Lint = None
 ask_of wishes.Why = None
+ask_of wishes.Diff = None
 ask_of wishes.NoName = None
 ask_of wishes.LintOfName = None
 ask_of wishes.ShowModule = None
@@ -35,6 +36,7 @@ is_lint wishes.Resolve = false
 is_lint wishes.Remove = false
 is_lint wishes.ShowRemoval = false
 is_lint wishes.Why = false
+is_lint wishes.Diff = false
 is_lint wishes.NoName = false
 is_lint wishes.LintOfName = false
 is_lint wishes.ShowModule = false
@@ -42,9 +44,10 @@ is_lint wishes.RemoveHolders = false
 is_lint wishes.Load = false
 is_lint wishes.Removal = false
 
--- what leads to names is wished for
+-- facts of names are wished for: what leads to them, or what two machines answer otherwise
 abbrev pub is_why : Wish → Bool
 is_why wishes.Why = true
+is_why wishes.Diff = true
 is_why wishes.ShowConfig = false
 is_why wishes.ShowDepends = false
 is_why wishes.DryRun = false

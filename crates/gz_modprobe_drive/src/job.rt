@@ -1,6 +1,7 @@
 //! What a run does.
-ghost use Rattle.std.specs.Prelude.{◌≡◌, ◌≤◌, None, false, IfNone, IfSome};
+ghost use Rattle.std.specs.Prelude.{◌≡◌, ◌≤◌, ℕ, List, None, false, true, IfNone, IfSome};
 ghost use Rattle.text_parts.specs.Text.{texts_of};
+ghost use Rattle.modprobe_words.specs.declared.switches.Switches.{Switches};
 ghost use Rattle.gz_modprobe_drive.specs.Jobs.{IsJob, worst_job};
 ghost use Rattle.gz_modprobe_drive.specs.Queries.{ask_of, is_lint, is_why};
 
@@ -14,7 +15,21 @@ pub(crate) enum Job<'a> {
     Lint,
     /// Tells what leads to names.
     Why,
+    /// Tells what two machines answer otherwise.
+    Diff,
     Answer(Query<'a>),
+}
+
+/// Which facts are told of names, if some are wished for.
+fn told_job<'a>(wish: Wish) -> Job<'a>
+    requires { is_why wish ≡ true }
+    ensures { (switches : Switches) (given : List (List ℕ)) → IsJob wish switches given result }
+{
+    if matches!(wish, Wish::Diff) {
+        Job::Diff
+    } else {
+        Job::Why
+    }
 }
 
 /// What is wished for; None if it is refused.
@@ -28,7 +43,7 @@ pub(crate) fn job_of<'a>(wish: Wish, switches: Switches, words: &'a [&'a [u8]]) 
         return Some(Job::Lint);
     }
     if is_why(wish) {
-        return Some(Job::Why);
+        return Some(told_job(wish));
     }
     let Some(query) = query_of(wish, switches, words) else {
         return None;
@@ -42,7 +57,7 @@ pub(crate) fn unread_status(job: Job<'_>) -> u8
     ensures most { result ≤ worst_job job.entry }
 {
     match job {
-        Job::Lint | Job::Why => 2,
+        Job::Lint | Job::Why | Job::Diff => 2,
         Job::Answer(_) => 1,
     }
 }

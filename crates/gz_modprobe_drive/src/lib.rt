@@ -4,6 +4,9 @@
 mod absences;
 mod answered;
 mod answering;
+mod bare;
+mod changes;
+mod comparing;
 mod configuration;
 mod current;
 mod devices;

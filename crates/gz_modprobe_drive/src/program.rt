@@ -55,13 +55,20 @@ fn perform_asked<R: Files + Env + AllocGlobal, O: Write, E: Write>(
         },
     };
     let host = Host { system: &regular };
+    let other = Regular {
+        disk: Disk {
+            rt,
+            root: asked.other.root.or(asked.root).unwrap_or(b""),
+        },
+    };
+    let other_host = Host { system: &other };
     let mut messages = Messages {
         errors,
         program: b"gz-modprobe",
         verbosity: asked.switches.verbosity,
         explains: explains(job, asked.switches),
     };
-    read_and_perform(&host, asked, job, output, &mut messages)
+    read_and_perform(&host, &other_host, asked, job, output, &mut messages)
 }
 
 /// Whether `--root` has an empty value, as where a script's variable is unset. It is not to stand for the machine itself.
@@ -112,7 +119,7 @@ fn run_words<R: Files + Env + AllocGlobal, O: Write, E: Write>(
         return Ok(end_words(rt.alloc(), ending, output, errors));
     }
     let asked = Asked::by(rt.alloc(), &items)?;
-    if is_root_empty(asked.root) {
+    if is_root_empty(asked.root) || is_root_empty(asked.other.root) {
         tell_line(errors, b"FATAL: ", b"--root names no folder", b"");
         Ok(1)
     } else {

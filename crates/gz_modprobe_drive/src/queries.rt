@@ -19,6 +19,7 @@ fn ask_of(wish: Wish) -> Option<Ask>
         Wish::ShowRemoval => Some(Ask::ShowRemoval),
         Wish::Lint
         | Wish::Why
+        | Wish::Diff
         | Wish::NoName
         | Wish::LintOfName
         | Wish::ShowModule
@@ -55,11 +56,11 @@ pub(crate) fn is_lint(wish: Wish) -> bool
     matches!(wish, Wish::Lint)
 }
 
-/// Whether what leads to names is wished for.
+/// Whether facts of names are wished for: what leads to them, or what two machines answer otherwise.
 pub(crate) fn is_why(wish: Wish) -> bool
     ensures { result ≡ is_why wish }
 {
-    matches!(wish, Wish::Why)
+    matches!(wish, Wish::Why | Wish::Diff)
 }
 
 /// Whether states of modules count.

@@ -5,6 +5,7 @@ ghost use Rattle.gz_modprobe_drive.specs.Jobs.{JobBegun, JobEnds, JobWrites, wor
 ghost use Rattle.gz_modprobe_drive.specs.Texts.{IsConfOf};
 
 use crate::answering::answer_query;
+use crate::comparing::compare;
 use crate::configuration::conf_of;
 use crate::current::known_directory;
 use crate::job::{Job, unread_status};
@@ -52,9 +53,10 @@ impl<S: System> Run<'_, S> {
     }
 }
 
-/// Does a job by what was read. Returns the status.
+/// Does a job by what was read, and by the files of another machine if two are compared. Returns the status.
 fn perform<S: System, O: Write, E: Write>(
     run: &Run<'_, S>,
+    other: &Host<'_, S>,
     job: Job<'_>,
     output: &mut O,
     messages: &mut Messages<'_, E>,
@@ -68,14 +70,16 @@ fn perform<S: System, O: Write, E: Write>(
     match job {
         Job::Lint => lint_machine(run, output, messages),
         Job::Why => tell_why(run, output, messages),
+        Job::Diff => compare(run, other, output, messages),
         Job::Answer(query) => answer_query(run, &query, output, messages),
     }
 }
 
-/// Reads the configuration and the folder of modules, and does a job. Where the root is missing, or that folder's path is not
+/// Reads the configuration and the folder of modules, and does a job, for which another machine's files may count. Where the root is missing, or that folder's path is not
 /// known, it is told, and nothing is done. Returns the status. It fails only if memory runs out.
 pub(crate) fn read_and_perform<S: System, O: Write, E: Write>(
     host: &Host<'_, S>,
+    other: &Host<'_, S>,
     asked: &Asked<'_>,
     job: Job<'_>,
     output: &mut O,
@@ -103,5 +107,5 @@ pub(crate) fn read_and_perform<S: System, O: Write, E: Write>(
         conf: &conf,
         modules: &modules,
     };
-    perform(&run, job, output, messages)
+    perform(&run, other, job, output, messages)
 }

@@ -37,11 +37,11 @@ fn query_of<'a>(names: &'a [&'a [u8]]) -> Query<'a> {
     }
 }
 
-/// Lines about what leads to names, and whether one of the names stands for no module.
+/// Lines about names, and whether the status is 1 for them: if a name stands for no module, or two machines answer otherwise.
 #[derive(Drop)]
-struct LeadLines {
-    text: Vec<u8>,
-    is_missing: bool,
+pub(crate) struct LeadLines {
+    pub(crate) text: Vec<u8>,
+    pub(crate) is_missing: bool,
 }
 
 /// What leads to the names that are asked for, by what was read. `index` is what the folder of modules says. If its texts are
@@ -79,8 +79,8 @@ fn lead_lines<'a, S: System>(
     Ok(LeadLines { text, is_missing })
 }
 
-/// Returns whether a name stands for no module, or not all was written.
-fn write_leads<O: Write, E: Write>(
+/// Writes lines. Returns whether the status is 1 for them, or not all was written.
+pub(crate) fn write_leads<O: Write, E: Write>(
     leads: &LeadLines,
     output: &mut O,
     messages: &mut Messages<'_, E>,

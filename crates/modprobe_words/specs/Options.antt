@@ -1,5 +1,5 @@
--- The options of modprobe(8), and `--explain`, `--lint`, `--root`, `--as`, `--whole`, `--why`, `--json` and `--shell`, which it
--- has not.
+-- The options of modprobe(8), and `--explain`, `--lint`, `--root`, `--as`, `--whole`, `--why`, `--json`, `--shell` and
+-- `--diff`, which it has not.
 use Rattle.std.specs.Prelude.{ℕ, Bool, true, false, ◌+◌, ◌==◌, if◌then◌else◌, List, [], ◌∷◌, codes, Option, Some, None}
 use Rattle.modprobe_words.specs.declared.options.Switch.{Switch}
 use Rattle.modprobe_words.specs.declared.options.Switch.TheVariants as switch
@@ -8,7 +8,7 @@ use Rattle.modprobe_words.specs.declared.options.Valued.TheVariants as valued
 use Rattle.modprobe_words.specs.declared.options.Meaning.{Meaning}
 use Rattle.modprobe_words.specs.declared.options.Meaning.TheVariants.{Plain, WithValue}
 use Rattle.modprobe_words.specs.declared.options.LongOption.{LongOption}
-use Rattle.modprobe_words.specs.declared.options.LongOption.TheVariants.{AllWord, RemoveWord, RemoveDependenciesWord, RemoveHoldersWord, WaitWord, ResolveAliasWord, FirstTimeWord, IgnoreInstallWord, IgnoreRemoveWord, UseBlacklistWord, ForceWord, ForceModversionWord, ForceVermagicWord, ShowDependsWord, ShowconfigWord, ShowConfigWord, ShowModversionsWord, DumpModversionsWord, ShowExportsWord, DryRunWord, ShowWord, ConfigWord, DirnameWord, SetVersionWord, SyslogWord, QuietWord, VerboseWord, VersionWord, HelpWord, ExplainWord, LintWord, RootWord, AsWord, WholeWord, WhyWord, JsonWord, ShellWord}
+use Rattle.modprobe_words.specs.declared.options.LongOption.TheVariants.{AllWord, RemoveWord, RemoveDependenciesWord, RemoveHoldersWord, WaitWord, ResolveAliasWord, FirstTimeWord, IgnoreInstallWord, IgnoreRemoveWord, UseBlacklistWord, ForceWord, ForceModversionWord, ForceVermagicWord, ShowDependsWord, ShowconfigWord, ShowConfigWord, ShowModversionsWord, DumpModversionsWord, ShowExportsWord, DryRunWord, ShowWord, ConfigWord, DirnameWord, SetVersionWord, SyslogWord, QuietWord, VerboseWord, VersionWord, HelpWord, ExplainWord, LintWord, RootWord, AsWord, WholeWord, WhyWord, JsonWord, ShellWord, DiffWord}
 
 -- the option of a letter
 unfoldable pub meaning_of_letter : ℕ → Option Meaning
@@ -61,6 +61,7 @@ switch_number switch.Whole = 22
 switch_number switch.Why = 23
 switch_number switch.Json = 24
 switch_number switch.Shell = 25
+switch_number switch.Diff = 26
 
 abbrev pub valued_number : Valued → ℕ
 valued_number valued.Wait = 0
@@ -115,6 +116,7 @@ word_of WholeWord = codes "whole"
 word_of WhyWord = codes "why"
 word_of JsonWord = codes "json"
 word_of ShellWord = codes "shell"
+word_of DiffWord = codes "diff"
 
 unfoldable pub meaning_of : LongOption → Meaning
 meaning_of AllWord = Plain switch.All
@@ -154,6 +156,7 @@ meaning_of WholeWord = Plain switch.Whole
 meaning_of WhyWord = Plain switch.Why
 meaning_of JsonWord = Plain switch.Json
 meaning_of ShellWord = Plain switch.Shell
+meaning_of DiffWord = Plain switch.Diff
 
 -- in the order of `modprobe --help`
 unfoldable pub long_options : List LongOption
@@ -165,15 +168,16 @@ long_options =
     ∷ ShowWord ∷ ConfigWord ∷ DirnameWord ∷ SetVersionWord ∷ SyslogWord
     ∷ QuietWord ∷ VerboseWord ∷ VersionWord ∷ HelpWord ∷ ExplainWord
     ∷ LintWord ∷ RootWord ∷ AsWord ∷ WholeWord ∷ WhyWord
-    ∷ JsonWord ∷ ShellWord ∷ []
+    ∷ JsonWord ∷ ShellWord ∷ DiffWord ∷ []
 
--- An option that may be cut. `--as`, `--whole`, `--why` and `--shell` may not, so that `--a` is `--all` and `--w` is `--wait`, as
--- with modprobe.
+-- An option that may be cut. `--as`, `--whole`, `--why`, `--shell` and `--diff` may not, so that `--a` is `--all`, `--w` is
+-- `--wait` and `--di` is `--dirname`, as with modprobe.
 abbrev pub may_be_cut : LongOption → Bool
 may_be_cut AsWord = false
 may_be_cut WholeWord = false
 may_be_cut WhyWord = false
 may_be_cut ShellWord = false
+may_be_cut DiffWord = false
 may_be_cut option = true
 
 -- what an option without a value stands for if it has one all the same; only `--explain` and `--lint` may have one

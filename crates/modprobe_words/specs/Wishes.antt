@@ -1,4 +1,4 @@
--- What the options of a command line wish for (modprobe(8)). `--lint` counts before all others, then `--showconfig`, then
+-- What the options of a command line wish for (modprobe(8)). `--lint` counts before all others, then `--diff`, then `--showconfig`, then
 -- `--show-modversions` and `--show-exports`, then `--remove`, then `--why`, then `--resolve-alias`.
 use Rattle.std.specs.Prelude.{Bool, not, if◌then◌else◌}
 use Rattle.modprobe_words.specs.declared.switches.Switches.{Switches}
@@ -26,6 +26,9 @@ asks s has_name =
     else (if s.show_module then wish.ShowModule
     else (if s.remove then removes s else loads s)))
 
+abbrev pub asks_of_two : Switches → Bool → Wish
+asks_of_two s has_name = if s.diff then wish.Diff else asks s has_name
+
 -- with `--lint` no name is looked up, whatever else is given
 unfoldable pub wish_of : Switches → Bool → Wish
-wish_of s has_name = if s.lint then (if has_name then wish.LintOfName else wish.Lint) else asks s has_name
+wish_of s has_name = if s.lint then (if has_name then wish.LintOfName else wish.Lint) else asks_of_two s has_name

@@ -17,6 +17,7 @@ pub(crate) const HELP: &str = "Usage:
   gz-modprobe -c [options]
   gz-modprobe --why [options] modulename [modulename...]
   gz-modprobe --lint[=json] [options]
+  gz-modprobe [options] --diff [options of the other files] [modulename...]
 
 It answers what modprobe(8) of kmod 34 answers, and loads and removes nothing.
 
@@ -28,6 +29,7 @@ Queries:
                               Print the configuration and the indexes
   -r, --remove                With -n: what a removal would do
       --why                   Print what leads to a module: needs, lines, devices
+      --diff                  Print what another machine's files would load instead
       --lint[=json]           Print the lines of the configuration that have no effect
 
 Options of queries:

@@ -20,7 +20,7 @@ mod words;
 mod written;
 
 pub use arguments::{given_options, given_variable, given_words};
-pub use asked::Asked;
+pub use asked::{Asked, Other};
 pub use endings::{Ending, first_ending};
 pub use form::Form;
 pub use items::{Fault, Item};

@@ -1,5 +1,5 @@
-//! The options of modprobe(8), and eight more: `--explain`, `--lint`, `--root`, `--as`, `--whole`, `--why`, `--json` and
-//! `--shell`.
+//! The options of modprobe(8), and nine more: `--explain`, `--lint`, `--root`, `--as`, `--whole`, `--why`, `--json`, `--shell`
+//! and `--diff`.
 ghost use Rattle.std.specs.Prelude.{◌≡◌};
 ghost use Rattle.modprobe_words.specs.Options.{kind_of, may_be_cut, meaning_of_letter, meaning_of, word_of, valued_form};
 
@@ -32,6 +32,7 @@ pub enum Switch {
     Why,
     Json,
     Shell,
+    Diff,
 }
 
 /// An option with a value.
@@ -94,10 +95,11 @@ pub enum LongOption {
     WhyWord,
     JsonWord,
     ShellWord,
+    DiffWord,
 }
 
 /// The options by words, in the order of `modprobe --help`, and then those that modprobe has not.
-pub(crate) const LONG_OPTIONS: [LongOption; 37] = [
+pub(crate) const LONG_OPTIONS: [LongOption; 38] = [
     LongOption::AllWord,
     LongOption::RemoveWord,
     LongOption::RemoveDependenciesWord,
@@ -135,6 +137,7 @@ pub(crate) const LONG_OPTIONS: [LongOption; 37] = [
     LongOption::WhyWord,
     LongOption::JsonWord,
     LongOption::ShellWord,
+    LongOption::DiffWord,
 ];
 
 /// The option of a letter.
@@ -222,18 +225,23 @@ impl LongOption {
             LongOption::WhyWord => b"why",
             LongOption::JsonWord => b"json",
             LongOption::ShellWord => b"shell",
+            LongOption::DiffWord => b"diff",
         }
     }
 
-    /// Whether a beginning of the word stands for it. `--as`, `--whole`, `--why` and `--shell` are not cut, so that `--a` is
-    /// `--all` and `--w` is `--wait`, as with modprobe.
+    /// Whether a beginning of the word stands for it. `--as`, `--whole`, `--why`, `--shell` and `--diff` are not cut, so that
+    /// `--a` is `--all`, `--w` is `--wait` and `--di` is `--dirname`, as with modprobe.
     pub(crate) fn may_be_cut(self) -> bool
         ensures { result ≡ may_be_cut self }
     {
-        !matches!(
-            self,
-            LongOption::AsWord | LongOption::WholeWord | LongOption::WhyWord | LongOption::ShellWord
-        )
+        match self {
+            LongOption::AsWord => false,
+            LongOption::WholeWord => false,
+            LongOption::WhyWord => false,
+            LongOption::ShellWord => false,
+            LongOption::DiffWord => false,
+            _ => true,
+        }
     }
 
     /// What an option without a value stands for if it has one all the same; None if that is refused.
@@ -292,6 +300,7 @@ impl LongOption {
             LongOption::WhyWord => Meaning::Plain(Switch::Why),
             LongOption::JsonWord => Meaning::Plain(Switch::Json),
             LongOption::ShellWord => Meaning::Plain(Switch::Shell),
+            LongOption::DiffWord => Meaning::Plain(Switch::Diff),
         }
     }
 }

@@ -31,6 +31,8 @@ pub struct Switches {
     pub json: bool,
     /// The lines of an answer are those of a shell.
     pub shell: bool,
+    /// What two machines answer otherwise is asked for.
+    pub diff: bool,
     /// 4 at first.
     pub verbosity: u64,
 }
@@ -57,6 +59,7 @@ impl Switches {
             why: false,
             json: false,
             shell: false,
+            diff: false,
             verbosity: 4,
         }
     }
@@ -89,6 +92,7 @@ impl Switches {
                 switches.explain = Some(Form::Json);
             }
             Switch::Shell => switches.shell = true,
+            Switch::Diff => switches.diff = true,
             Switch::Force
             | Switch::ForceModversion
             | Switch::ForceVermagic

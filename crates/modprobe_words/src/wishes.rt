@@ -1,6 +1,6 @@
 //! What the options of a command line wish for.
 ghost use Rattle.std.specs.Prelude.{◌≡◌};
-ghost use Rattle.modprobe_words.specs.Wishes.{asks, loads, wish_of};
+ghost use Rattle.modprobe_words.specs.Wishes.{asks, asks_of_two, loads, wish_of};
 
 use crate::switches::Switches;
 
@@ -19,6 +19,8 @@ pub enum Wish {
     Lint,
     /// `--why`: what leads to names.
     Why,
+    /// `--diff`: what two machines answer otherwise.
+    Diff,
     /// Refused: no name was given.
     NoName,
     /// Refused: a name was given beside `--lint`.
@@ -74,13 +76,24 @@ impl Switches {
         }
     }
 
+    /// The same, of one machine or of two.
+    fn asks_of_two(self, has_name: bool) -> Wish
+        ensures { result ≡ asks_of_two self has_name }
+    {
+        if self.diff {
+            Wish::Diff
+        } else {
+            self.asks(has_name)
+        }
+    }
+
     /// What is wished, if there is a name or not.
     #[tactic(auto, unfolding(crate::specs::Wishes::wish_of))]
     pub fn wish(self, has_name: bool) -> Wish
         ensures { result ≡ wish_of self has_name }
     {
         if !self.lint {
-            self.asks(has_name)
+            self.asks_of_two(has_name)
         } else if has_name {
             Wish::LintOfName
         } else {
