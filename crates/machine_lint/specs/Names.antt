@@ -35,6 +35,10 @@ is_builtin_alias index name = nat_lt 0 (length (in_order (matching_lines index.b
 abbrev pub is_in_kernel : Indexes → List ℕ → Bool
 is_in_kernel index name = is_among index.builtin_names name || is_builtin_alias index name
 
+-- The name is that of an alias of a module in the kernel alone. A command of this name takes the place of that module.
+abbrev pub is_kernel_alias : Indexes → List ℕ → Bool
+is_kernel_alias index name = not (is_among index.builtin_names name) && is_builtin_alias index name
+
 -- an alias line of the configuration has this very name for its pattern, by which it gives options to its module
 abbrev pub is_alias_pattern : Configuration → List ℕ → Bool
 is_alias_pattern conf name = list_any (λ line. bytes_eq line.pattern name) conf.aliases

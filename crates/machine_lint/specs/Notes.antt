@@ -10,6 +10,7 @@ use Rattle.kmod_conf.specs.declared.line.TextLine.{TextLine}
 use Rattle.kmod_conf.specs.declared.line.SoftdepLine.{SoftdepLine}
 use Rattle.kmod_conf.specs.Configuration.{Configuration}
 use Rattle.kmod_conf.specs.LookUps.{install_named, install_of, matching_aliases, remove_named, remove_of, softdep_of}
+use Rattle.kmod_index.specs.Builtins.{is_among}
 use Rattle.kmod_index.specs.Indexes.{Indexes}
 use Rattle.machine_lint.specs.declared.judge.Judge.{Judge}
 use Rattle.machine_lint.specs.declared.known.Known.{Known}
@@ -22,7 +23,7 @@ use Rattle.machine_lint.specs.declared.options.OptionWord.{OptionWord}
 use Rattle.machine_lint.specs.declared.setting.Setting.{Setting}
 use Rattle.machine_lint.specs.declared.setting.Setting.TheVariants as sets
 use Rattle.machine_lint.specs.Lines.{Said, has_items, is_depmod, is_kernel, is_package, is_same_place, lines_of, origin_at}
-use Rattle.machine_lint.specs.Names.{has_file, has_pattern, is_alias_pattern, is_commanded, is_found, is_in_kernel, is_loadable, is_module, is_named, is_only_alias, is_own, is_used}
+use Rattle.machine_lint.specs.Names.{has_file, has_pattern, is_alias_pattern, is_commanded, is_found, is_in_kernel, is_kernel_alias, is_loadable, is_module, is_named, is_only_alias, is_own, is_used}
 use Rattle.machine_lint.specs.Options.{is_agreed, is_never_unknown, last_setting, option_words, parameter_of, takes_more, value_of, words_of}
 
 -- what is known of a machine, and all lines of its configuration
@@ -136,10 +137,14 @@ counting_install facts name = if has_file facts.index name then install_of facts
 abbrev pub counting_remove : Facts → List ℕ → Option TextLine
 counting_remove facts name = if has_file facts.index name then remove_of facts.conf name else remove_named facts.conf name
 
+-- a command runs for the name of a module or of an alias, also of one in the kernel
+abbrev pub has_own_command : Facts → List ℕ → Bool
+has_own_command facts name = is_named facts.conf facts.index name || is_kernel_alias facts.index name
+
 -- a command that does nothing keeps no module out that is not there
 abbrev pub keeps_nothing : Facts → Said → Option NoteKind
 keeps_nothing facts line =
-    unless (is_named facts.conf facts.index line.name || has_pattern line.name || not (does_nothing line.text))
+    unless (has_own_command facts line.name || has_pattern line.name || not (does_nothing line.text))
     (why_absent facts.index line.name)
 
 abbrev pub is_found_by : Facts → Option (List ℕ) → Bool
@@ -225,10 +230,14 @@ remove_kind facts line = option_or (later line.place (counting_remove facts line
 abbrev pub weakdep_kind : Facts → Said → Option NoteKind
 weakdep_kind facts line = if has_pattern line.name then None else no_module facts line.name
 
+-- of a name whose soft dependencies nobody looks for; modprobe -D does so for a module in the kernel too
+abbrev pub no_soft_module : Facts → List ℕ → Option NoteKind
+no_soft_module facts name = if is_among facts.index.builtin_names name then None else no_module facts name
+
 abbrev pub filled_softdep_kind : Facts → Said → Option NoteKind
 filled_softdep_kind facts line =
     if has_pattern line.name then None
-    else option_or (later_softdep line.place (softdep_of facts.conf line.name)) (no_module facts line.name)
+    else option_or (later_softdep line.place (softdep_of facts.conf line.name)) (no_soft_module facts line.name)
 
 -- the words of a softdep line are items only after `pre:` or `post:`
 abbrev pub softdep_kind : Facts → Said → Option NoteKind

@@ -1,8 +1,8 @@
 //! What is noted of a line.
 ghost use Rattle.std.specs.Prelude.{◌≡◌, IfOk, option_copied};
 ghost use Rattle.std.specs.Option.{option_or};
-ghost use Rattle.machine_lint.specs.Notes.{absent, alias_kind, blacklist_kind, counting_install, counting_remove, facts_by, filled_softdep_kind};
-ghost use Rattle.machine_lint.specs.Notes.{install_kind, keeps_nothing, kind_of, later, later_softdep, loads_something, named_options_kind, no_module, options_kind, other_text, passed_over};
+ghost use Rattle.machine_lint.specs.Notes.{absent, alias_kind, blacklist_kind, counting_install, counting_remove, facts_by, filled_softdep_kind, has_own_command};
+ghost use Rattle.machine_lint.specs.Notes.{install_kind, keeps_nothing, kind_of, later, later_softdep, loads_something, named_options_kind, no_module, no_soft_module, options_kind, other_text, passed_over};
 ghost use Rattle.machine_lint.specs.Notes.{remove_kind, repeated, setting_kind, softdep_kind, stopped, stopped_by, unless_here, used_options_kind, weakdep_kind, why_absent, why_no_module};
 
 use crate::judge::Judge;
@@ -141,13 +141,22 @@ impl Judge<'_> {
         }
     }
 
+    /// Whether a command runs for the name of a module or of an alias, also of one in the kernel.
+    fn has_own_command(&self, alloc: Global, name: &[u8]) -> Result<bool, AllocError>
+        ensures { IfOk result (λ has. has ≡ has_own_command (facts_by self.now) name.now) }
+    {
+        let is_named = self.is_named(alloc, name)?;
+        let is_alias = self.is_kernel_alias(alloc, name)?;
+        Ok(is_named || is_alias)
+    }
+
     /// That a command which does nothing keeps no module out.
     fn keeps_nothing(&self, alloc: Global, line: &Line) -> Result<Option<NoteKind>, AllocError>
         ensures { IfOk result (λ kind. kind ≡ keeps_nothing (facts_by self.now) line.now) }
     {
-        let is_named = self.is_named(alloc, line.name())?;
+        let has_command = self.has_own_command(alloc, line.name())?;
         let is_idle = does_nothing(alloc, line.text())?;
-        if is_named || has_pattern(line.name()) || !is_idle {
+        if has_command || has_pattern(line.name()) || !is_idle {
             Ok(None)
         } else {
             Ok(Some(self.why_absent(alloc, line.name())?))
@@ -278,6 +287,17 @@ impl Judge<'_> {
         }
     }
 
+    /// Of a name whose soft dependencies nobody looks for.
+    fn no_soft_module(&self, alloc: Global, name: &[u8]) -> Result<Option<NoteKind>, AllocError>
+        ensures { IfOk result (λ kind. kind ≡ no_soft_module (facts_by self.now) name.now) }
+    {
+        if self.is_builtin(name) {
+            Ok(None)
+        } else {
+            self.no_module(alloc, name)
+        }
+    }
+
     /// What is noted of a softdep line that has an item.
     fn filled_softdep_kind(
         &self,
@@ -292,7 +312,7 @@ impl Judge<'_> {
         let counting = self.conf.softdep_of(alloc, line.name())?;
         match later_softdep(line.place(), counting) {
             Some(kind) => Ok(Some(kind)),
-            None => self.no_module(alloc, line.name()),
+            None => self.no_soft_module(alloc, line.name()),
         }
     }
 

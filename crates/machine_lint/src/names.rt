@@ -1,7 +1,7 @@
 //! What names stand for.
 ghost use Rattle.std.specs.Prelude.{◌≡◌, IfOk};
 ghost use Rattle.kmod_index.specs.Builtins.{is_among};
-ghost use Rattle.machine_lint.specs.Names.{has_file, is_alias, is_alias_pattern, is_builtin_alias, is_commanded, is_found, is_in_kernel, is_loadable, is_matched, is_module, is_named, is_only_alias, is_own, is_target, is_used};
+ghost use Rattle.machine_lint.specs.Names.{has_file, is_alias, is_alias_pattern, is_builtin_alias, is_commanded, is_found, is_in_kernel, is_kernel_alias, is_loadable, is_matched, is_module, is_named, is_only_alias, is_own, is_target, is_used};
 
 use crate::judge::Judge;
 use std::alloc::{AllocError, Global};
@@ -16,7 +16,7 @@ impl Judge<'_> {
     }
 
     /// Whether a module of the name is in the kernel.
-    fn is_builtin(&self, name: &[u8]) -> bool
+    pub(crate) fn is_builtin(&self, name: &[u8]) -> bool
         ensures { result ≡ is_among self.now.index.now.builtin_names name.now }
     {
         self.index.is_builtin(name)
@@ -36,6 +36,14 @@ impl Judge<'_> {
     {
         let is_alias = self.is_builtin_alias(alloc, name)?;
         Ok(self.is_builtin(name) || is_alias)
+    }
+
+    /// Whether the name is that of an alias of a module in the kernel alone, of which a command of this name takes the place.
+    pub(crate) fn is_kernel_alias(&self, alloc: Global, name: &[u8]) -> Result<bool, AllocError>
+        ensures { IfOk result (λ is. is ≡ is_kernel_alias self.now.index.now name.now) }
+    {
+        let is_alias = self.is_builtin_alias(alloc, name)?;
+        Ok(!self.is_builtin(name) && is_alias)
     }
 
     /// Whether an alias outside the kernel matches the name, or a symbol is this name.
