@@ -52,6 +52,7 @@ because setting (of_kind.Stopped place) = codes "stopped"
 because setting (of_kind.UnknownParameter parameter) = codes "unknown_parameter"
 because setting (of_kind.SetLater parameter place) = codes "set_later"
 because setting (of_kind.OtherText place) = codes "other_text"
+because setting of_kind.UnknownKind = codes "unknown_kind"
 
 -- `note` of a line that has no effect on this machine, and may have one on others, or that stands twice; `error` of a line that
 -- does other than it says
@@ -101,6 +102,7 @@ words_before setting (of_kind.Stopped place) = codes "not used, since this insta
 words_before setting (of_kind.UnknownParameter parameter) = codes "the module has no parameter "
 words_before setting (of_kind.SetLater parameter place) = []
 words_before setting (of_kind.OtherText place) = codes "does not count, since this alias takes options by its own text alone: "
+words_before setting of_kind.UnknownKind = codes "no note has this kind"
 
 -- the name of something else that is noted
 abbrev pub named_piece : NoteKind → Piece

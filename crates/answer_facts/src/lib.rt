@@ -36,7 +36,7 @@ pub use lines::{json_lines, text_lines};
 pub use missing_fact::MissingFact;
 pub use module_fact::ModuleFact;
 pub use name_fact::NameFact;
-pub use note_fact::{NoteFact, counting_place};
+pub use note_fact::{NoteFact, because, counting_place};
 pub use origin::Origin;
 pub use plan::{origin_lines, plan_lines};
 pub use removal_fact::{RemovalFact, Shows};

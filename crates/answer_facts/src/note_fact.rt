@@ -65,8 +65,8 @@ fn unknown_because(setting: Setting) -> &'static [u8]
     }
 }
 
-/// Why the line has no effect, in JSON.
-fn because(setting: Setting, kind: &NoteKind) -> &'static [u8]
+/// The kind of a note: why the line has no effect, in JSON.
+pub fn because(setting: Setting, kind: &NoteKind) -> &'static [u8]
     ensures { result.now ≡ because setting kind.now }
 {
     match kind {
@@ -88,6 +88,7 @@ fn because(setting: Setting, kind: &NoteKind) -> &'static [u8]
         NoteKind::UnknownParameter(_) => b"unknown_parameter",
         NoteKind::SetLater(_, _) => b"set_later",
         NoteKind::OtherText(_) => b"other_text",
+        NoteKind::UnknownKind => b"unknown_kind",
     }
 }
 
@@ -175,6 +176,7 @@ fn words_before(setting: Setting, kind: &NoteKind) -> &'static [u8]
         NoteKind::SetLater(_, _) => b"",
         NoteKind::OtherText(_) =>
             b"does not count, since this alias takes options by its own text alone: ",
+        NoteKind::UnknownKind => b"no note has this kind",
     }
 }
 

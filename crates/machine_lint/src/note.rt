@@ -44,6 +44,8 @@ pub enum NoteKind {
     SetLater(Text, Place),
     /// The alias line at this place answers to the name first, and takes options by its own text alone, which is another one.
     OtherText(Place),
+    /// No note has this kind, of which a comment says that it is not to be noted. `lint` gives none of these.
+    UnknownKind,
 }
 
 impl NoteKind {
