@@ -41,10 +41,12 @@ pub fn write_next_setup<R: Files<File = File> + Clock + AllocGlobal>(
     }
 }
 
-/// Puts the next setup in the place of the setup, all at once.
+/// Puts the next setup in the place of the setup, all at once. The name of the journal comes to the disk before: by the old
+/// journal the next setup is none.
 fn put_in_place<R: Files<File = File> + Clock + AllocGlobal>(
     shared: &Shared<'_, R>,
 ) -> io::Result<()> {
+    shared.sync_names(shared.folder, Syncs::Kept)?;
     fs::rename(shared.rt, &shared.path(NEXT)?, &shared.path(SETUP)?)?;
     shared.sync_names(shared.folder, Syncs::Kept)
 }
@@ -69,21 +71,31 @@ pub fn drop_next_setup<R: Files<File = File> + Clock + AllocGlobal>(shared: &Sha
     }
 }
 
-/// Whether the journal names the next setup. None if that cannot be read. One that was cut is not named: it is on the disk as a
-/// whole before it is.
+/// Whether a file of the folder is the setup of this name. None if it cannot be read.
+fn has_name<R: Files<File = File> + Clock + AllocGlobal>(
+    shared: &Shared<'_, R>,
+    file: &str,
+    name: &[u8],
+) -> Option<bool> {
+    let bytes = read_path(shared.rt, &shared.path(file).ok()?).ok()?;
+    match name_of_setup(shared.alloc(), &bytes) {
+        Ok(own) => Some(own.as_slice() == name),
+        Err(TableFault::OutOfMemory) => None,
+        Err(_) => Some(false),
+    }
+}
+
+/// Whether the journal names the next setup, and not the one that is there. None if that cannot be read. Of two of one name the
+/// next one may be torn: it is on the disk as a whole before the journal is written for it.
 fn is_next_named<R: Files<File = File> + Clock + AllocGlobal>(
     shared: &Shared<'_, R>,
 ) -> Option<bool> {
-    let alloc = shared.alloc();
-    let next = read_path(shared.rt, &shared.path(NEXT).ok()?).ok()?;
-    let name = match name_of_setup(alloc, &next) {
-        Ok(name) => name,
-        Err(TableFault::OutOfMemory) => return None,
-        Err(_) => return Some(false),
-    };
     let journal = journal_now(shared).ok()?;
-    let named = named_in(alloc, &journal)?;
-    Some(named.as_slice() == name.as_slice())
+    let named = named_in(shared.alloc(), &journal)?;
+    if has_name(shared, SETUP, &named)? {
+        return Some(false);
+    }
+    has_name(shared, NEXT, &named)
 }
 
 /// Ends a renewal that was cut off, under the folder's lock. If the journal names the next setup, that becomes the folder's, and
