@@ -1,5 +1,5 @@
 -- The tenures of a run, one after another.
-use Rattle.std.proofs.Common.{arith, ◌≡◌, refl, sym, ap, subst, ◌∙◌, ℕ, zero, suc, ◌+◌, ◌-◌, ◌<◌, ◌≤◌, List, [], ◌∷◌, ◌++◌, length, take, drop, take-add, get_or, set, slice_set, slice_index_or, Option, Some, None, Result, Ok, Err, IfOk, OnOk, OnErr, IfSome}
+use Rattle.std.proofs.Common.{arith, ◌≡◌, refl, sym, ap, subst, ◌∙◌, ℕ, zero, suc, Bool, ◌+◌, ◌-◌, ◌<◌, ◌≤◌, List, [], ◌∷◌, ◌++◌, length, take, drop, take-add, get_or, set, slice_set, slice_index_or, Option, Some, None, Result, Ok, Err, IfOk, OnOk, OnErr, IfSome}
 use Rattle.std.specs.declared.snapshot.Snapshot.{Snapshot}
 use Rattle.std.proofs.lemmas.List.{append_assoc, append-nil, length-append, set_at, get_or_at}
 use Rattle.std.proofs.lemmas.List.Elements.{All-take}
@@ -177,7 +177,7 @@ left_behind f h lines belief after_lines of = λ file left.
     (0, record { stands = subst (λ all. FileStands f.setup (after f.setup h all) file) (sym (append-nil lines)) (after_lines file left); of = of file left })
 
 -- what a tenure answered that may have changed its table
-pub changed_lines : (f : FolderSetup) (h : Held) (lines : List (List ℕ)) (belief : Belief) (log mid new_log : Tenures) (old new : Replies) → HasBegunOver f h log mid → HasEnded belief mid new_log
+changed_lines : (f : FolderSetup) (h : Held) (lines : List (List ℕ)) (belief : Belief) (log mid new_log : Tenures) (old new : Replies) → HasBegunOver f h log mid → HasEnded belief mid new_log
     → HasAnswered f.setup h lines old new → LeavesAfter f.setup h lines belief → LeavesOf f belief → HasTold f lines [] log new_log old new
 changed_lines f h lines belief log mid new_log old new begun ended answered leaves of =
     record { replies = replies_of f.setup h lines; told = changed_told f h lines [] belief log mid new_log begun ended (left_behind f h lines belief leaves of); has = answered }
@@ -193,7 +193,7 @@ first_left f h lines count file (all, least, within, stands) of =
       },
     )
 
-pub changed_first : (f : FolderSetup) (h : Held) (lines : List (List ℕ)) (belief : Belief) (log mid new_log : Tenures) (old new : Replies) → HasBegunOver f h log mid → HasEnded belief mid new_log
+changed_first : (f : FolderSetup) (h : Held) (lines : List (List ℕ)) (belief : Belief) (log mid new_log : Tenures) (old new : Replies) → HasBegunOver f h log mid → HasEnded belief mid new_log
     → StoppedWithin f.setup h lines (history_of belief).leaves old new → LeavesOf f belief → HasToldFirst f lines log new_log old new
 changed_first f h lines belief log mid new_log old new begun ended stopped of =
     let first = take stopped.count lines in
@@ -206,6 +206,21 @@ changed_first f h lines belief log mid new_log old new begun ended stopped of =
         has = stopped.answered;
       },
     )
+
+-- the same of what answered lines tells of them
+pub noted_ok : {E : Type 0} (f : FolderSetup) (h : Held) (lines : List (List ℕ)) (belief : Belief) (log mid new_log : Tenures) (old new : Replies) (result : Result (ℕ × Bool) E)
+    → HasBegunOver f h log mid → HasEnded belief mid new_log → IfOk result (λ done. HasAnswered f.setup h (take done.0 lines) old new)
+    → IfOk result (λ done. LeavesAfter f.setup h (take done.0 lines) belief) → LeavesOf f belief → IfOk result (λ done. HasTold f (take done.0 lines) [] log new_log old new)
+noted_ok f h lines belief log mid new_log old new (Ok done) begun ended answered leaves of =
+    changed_lines f h (take done.0 lines) belief log mid new_log old new begun ended answered leaves of
+noted_ok f h lines belief log mid new_log old new (Err error) begun ended answered leaves of = tt
+
+pub noted_err : {T E : Type 0} (f : FolderSetup) (h : Held) (lines : List (List ℕ)) (belief : Belief) (log mid new_log : Tenures) (old new : Replies) (result : Result T E)
+    → HasBegunOver f h log mid → HasEnded belief mid new_log → OnErr result (StoppedWithin f.setup h lines (history_of belief).leaves old new) → LeavesOf f belief
+    → OnErr result (HasToldFirst f lines log new_log old new)
+noted_err f h lines belief log mid new_log old new (Ok done) begun ended stopped of = tt
+noted_err f h lines belief log mid new_log old new (Err error) begun ended stopped of =
+    changed_first f h lines belief log mid new_log old new begun ended stopped of
 
 -- the same, where no tenure had begun before
 told_after : (f : FolderSetup) (lines others : List (List ℕ)) (replies : List Outcome) (log mid new : Tenures) → mid.noted.items ≡ log.noted.items → HaveTold f lines others replies mid new

@@ -45,7 +45,30 @@ fn adopt_file<R: Files + Drop>(
     }
 }
 
-/// As `adopt_file`, in one tenure, and what a full disk took of that is cut off again.
+/// As `adopt_file`, in a tenure that is noted.
+fn adopt_noted<R: Files + Drop>(
+    alloc: Global,
+    setup: &FolderSetup,
+    log: &mut Tenures,
+    table: &mut FileTable<'_, R>,
+    kernel: &[KernelModule],
+    replies: &mut Replies,
+) -> Result<(), TableFault>
+    requires of_setup { table.old.session.setup.now ≡ setup.now.setup }
+    requires stands { Stands ⟦<FileDevice<R> as Device>⟧.content ⟦<FileDevice<R> as Device>⟧.history setup.now.setup table.old.session.holders.held table.old.journal }
+    requires of { IsOf setup.now (⟦<FileDevice<R> as Device>⟧.content table.old.journal.lines.device) }
+    ensures adopted { OnOk result (HasAdopted setup.now.setup table.old.session.holders.held kernel.now replies.old replies.new) }
+    ensures made { OnOk result (HasMade setup.now table.old.session.holders.held
+        (adopting_lines setup.now.setup table.old.session.holders.held kernel.now) log.old log.new) }
+    ensures grown { HasGrown log.old log.new }
+{
+    begin_over(table.device(), log)?;
+    let adopted = adopt_file(alloc, setup, table, kernel, replies);
+    log.end(table.device().believed());
+    adopted
+}
+
+/// As `adopt_noted`, and what a full disk took of that is cut off again.
 fn adopt_into<'r, R: Files<File = File> + Clock + AllocGlobal>(
     shared: &Shared<'r, R>,
     setup: &FolderSetup,
@@ -62,9 +85,7 @@ fn adopt_into<'r, R: Files<File = File> + Clock + AllocGlobal>(
         (adopting_lines setup.now.setup table.entry.session.holders.held kernel.now) log.old log.new) }
     ensures grown { HasGrown log.old log.new }
 {
-    begin_over(table.device(), log)?;
-    let adopted = adopt_file(shared.alloc(), setup, &mut table, kernel, replies);
-    log.end(table.device().believed());
+    let adopted = adopt_noted(shared.alloc(), setup, log, &mut table, kernel, replies);
     if let Err(fault) = &adopted {
         cut_unwritten(shared, setup, fault, table.into_device());
     }

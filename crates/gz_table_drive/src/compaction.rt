@@ -11,10 +11,10 @@ ghost use Rattle.gz_table_drive.specs.Log.{CannotCompact, HasCompacted, HasGrown
 use crate::kept::Kept;
 use crate::log::Tenures;
 use crate::opening::no_holders;
-use crate::tenure::{begin_over, changing_table};
+use crate::tenure::{FileTable, begin_over, changing_table};
 use durable_table::{Compacted, DurableTable, PerformError};
-use file_journal::{FolderLock, LockKind};
-use line_journal::{DeviceError, Renewable};
+use file_journal::{FileDevice, FolderLock, LockKind};
+use line_journal::{Device, DeviceError, Renewable};
 use std::alloc::Global;
 use std::fs::File;
 use std::io::Write;
@@ -69,6 +69,32 @@ pub(crate) fn shorten<D: Renewable + Drop>(
     compact_table(alloc, setup, table).is_ok()
 }
 
+/// As `compact_table`, in a tenure that is noted.
+fn compact_noted<R: Files + Drop>(
+    alloc: Global,
+    setup: &FolderSetup,
+    log: &mut Tenures,
+    table: &mut FileTable<'_, R>,
+) -> Result<Compacted, TableFault>
+    requires stands { Stands ⟦<FileDevice<R> as Device>⟧.content ⟦<FileDevice<R> as Device>⟧.history setup.now.setup table.old.session.holders.held table.old.journal }
+    requires of_setup { table.old.session.setup.now ≡ setup.now.setup }
+    requires of { IsOf setup.now (⟦<FileDevice<R> as Device>⟧.content table.old.journal.lines.device) }
+    ensures done { IfOk result (λ made. made ≡ Compacted.Done → HasCompacted setup.now log.old log.new) }
+    ensures kept { IfOk result (λ made. made ≡ Compacted.Kept → CannotCompact setup.now log.old log.new) }
+    ensures grown { HasGrown log.old log.new }
+{
+    begin_over(table.device(), log)?;
+    let compacted = compact_table(alloc, setup, table);
+    log.end(table.device().believed());
+    match compacted {
+        Ok(compacted) => Ok(compacted),
+        Err(PerformError::Device(DeviceError::Failed)) => Err(journal_fault(
+            table.device().fault(),
+        )),
+        Err(_) => Err(TableFault::OutOfMemory),
+    }
+}
+
 /// Writes the journal of a folder anew, as the lines that make its table, unless they would not make it. It is one tenure.
 fn compact_folder<R: Files<File = File> + Clock + AllocGlobal, E: Write>(
     shared: &Shared<'_, R>,
@@ -83,16 +109,7 @@ fn compact_folder<R: Files<File = File> + Clock + AllocGlobal, E: Write>(
     ensures grown { HasGrown log.old log.new }
 {
     let mut table = changing_table(shared, &mut Kept::new(setup), lock, teller)?;
-    begin_over(table.device(), log)?;
-    let compacted = compact_table(shared.alloc(), setup, &mut table);
-    log.end(table.device().believed());
-    match compacted {
-        Ok(compacted) => Ok(compacted),
-        Err(PerformError::Device(DeviceError::Failed)) => Err(journal_fault(
-            table.device().fault(),
-        )),
-        Err(_) => Err(TableFault::OutOfMemory),
-    }
+    compact_noted(shared.alloc(), setup, log, &mut table)
 }
 
 /// Writes the journal of a folder anew, as the lines that make its table.

@@ -220,6 +220,19 @@ fn settled<'s, D: Device + Drop>(
     }
 }
 
+/// Keeps what a crash left behind the lines of a journal. If no table of this setup can be made of it, which is tried on a copy,
+/// nothing is written.
+fn keep_tried<R: Files<File = File> + Clock + AllocGlobal, E: Write>(
+    shared: &Shared<'_, R>,
+    setup: &FolderSetup,
+    device: &mut FileDevice<&R>,
+    teller: &mut Teller<'_, E>,
+) -> Result<(), TableFault> {
+    let bytes = bytes_of(shared.alloc(), device)?;
+    copy_of(shared.alloc(), setup, bytes)?;
+    keep_torn(shared, device, teller)
+}
+
 /// Opens the table of a file that does not read as a journal at rest. What a crash left behind its lines is first kept. If no
 /// table can be made of it, which is tried on a copy, nothing is written.
 fn repaired<'s, 'r, R: Files<File = File> + Clock + AllocGlobal, E: Write>(
@@ -232,9 +245,7 @@ fn repaired<'s, 'r, R: Files<File = File> + Clock + AllocGlobal, E: Write>(
     ensures of { IfOk result (λ t. IsOf setup.now (⟦<FileDevice<&'r R> as Device>⟧.content t.journal.lines.device)) }
     ensures stands { IfOk result (λ t. Stands ⟦<FileDevice<&'r R> as Device>⟧.content ⟦<FileDevice<&'r R> as Device>⟧.history setup.now.setup t.session.holders.held t.journal) }
 {
-    let bytes = bytes_of(shared.alloc(), &mut device)?;
-    copy_of(shared.alloc(), setup, bytes)?;
-    keep_torn(shared, &mut device, teller)?;
+    keep_tried(shared, setup, &mut device, teller)?;
     match open_table(shared.alloc(), setup, device) {
         Ok(table) => Ok(table),
         Err(fault) => Err(unopened(fault)),
@@ -314,6 +325,33 @@ fn answer_table<R: Files + Drop>(
     }
 }
 
+/// As `answer_table`, in a tenure that is noted.
+fn answer_noted<R: Files + Drop>(
+    alloc: Global,
+    setup: &FolderSetup,
+    log: &mut Tenures,
+    table: &mut FileTable<'_, R>,
+    lines: &[Vec<u8>],
+    replies: &mut Replies,
+) -> Result<(usize, bool), TableFault>
+    requires lines { AreLines (bytes_of lines.now) }
+    requires of_setup { table.old.session.setup.now ≡ setup.now.setup }
+    requires stands { Stands ⟦<FileDevice<R> as Device>⟧.content ⟦<FileDevice<R> as Device>⟧.history setup.now.setup table.old.session.holders.held table.old.journal }
+    requires of { IsOf setup.now (⟦<FileDevice<R> as Device>⟧.content table.old.journal.lines.device) }
+    ensures answered { IfOk result (λ done. HasTold setup.now (take done.0 (bytes_of lines.now)) [] log.old log.new replies.old replies.new) }
+    ensures stopped { OnErr result (HasToldFirst setup.now (bytes_of lines.now) log.old log.new replies.old replies.new) }
+    ensures some { IfOk result (λ done. 0 < length lines.now → 0 < done.0) }
+    ensures within { IfOk result (λ done. done.0 ≤ length lines.now) }
+    ensures reads { IfOk result (λ done. done.1 ≡ true → Reads ⟦<FileDevice<R> as Device>⟧.content setup.now.setup table.new.session.holders.held table.new.journal) }
+    ensures of { IfOk result (λ done. done.1 ≡ true → IsOf setup.now (⟦<FileDevice<R> as Device>⟧.content table.new.journal.lines.device)) }
+    ensures setup { table.new.session.setup ≡ table.old.session.setup }
+{
+    begin_over(table.device(), log)?;
+    let answered = answer_table(alloc, setup, table, lines, replies);
+    log.end(table.device().believed());
+    answered
+}
+
 /// If the disk was full, cuts off what was written of lines that have no reply, so that something can be given back. It is this
 /// run's own, whose device still has the lock. If that fails too, it is left to the next run.
 pub(crate) fn cut_unwritten<R: Files<File = File> + Clock + AllocGlobal>(
@@ -355,10 +393,8 @@ fn answer_changing<'s, 'r, R: Files<File = File> + Clock + AllocGlobal, E: Write
     ensures setup { kept.new.setup.now ≡ kept.old.setup.now }
 {
     let mut table = changing_table(shared, kept, lock, teller)?;
-    begin_over(table.device(), log)?;
-    let answered = answer_table(shared.alloc(), kept.setup(), &mut table, lines, replies);
-    log.end(table.device().believed());
-    match answered {
+    let setup = kept.setup();
+    match answer_noted(shared.alloc(), setup, log, &mut table, lines, replies) {
         Ok((count, may_keep)) => {
             if may_keep {
                 kept.keep(table);
@@ -366,7 +402,7 @@ fn answer_changing<'s, 'r, R: Files<File = File> + Clock + AllocGlobal, E: Write
             Ok(count)
         }
         Err(fault) => {
-            cut_unwritten(shared, kept.setup(), &fault, table.into_device());
+            cut_unwritten(shared, setup, &fault, table.into_device());
             Err(fault)
         }
     }

@@ -2,7 +2,7 @@ use Rattle.std.proofs.Common.{sym, ap, subst, ◌∙◌, OnOk}
 use Rattle.gz_table_drive.specs.Adopting.{adopting_lines}
 use Rattle.gz_table_drive.specs.Log.{IsJournalOf, LeavesAfter, LeavesOf}
 use Rattle.gz_table_drive.proofs.LogLemmas.{ended_with, grown_none, has_made}
-use Rattle.gz_table_drive.proofs.adopt.adopt_into.Goals as goal
+use Rattle.gz_table_drive.proofs.adopt.adopt_noted.Goals as goal
 
 pub returns-in_err-begin_over-clause-grown : goal.returns-in_err-begin_over-clause-grown
 returns-in_err-begin_over-clause-grown g c = grown_none c.args.log.now c.begin_over.new.log c.in_err-begin_over.ensures.none
@@ -10,7 +10,7 @@ returns-in_err-begin_over-clause-grown g c = grown_none c.args.log.now c.begin_o
 pub returns-clause-made : goal.returns-clause-made
 returns-clause-made g c =
     let f = c.args.setup.now in
-    let held = c.args.table.session.holders.held in
+    let held = c.args.table.now.session.holders.held in
     let lines = adopting_lines f.setup held c.args.kernel.now in
     let bytes = c.device.result.now.belief.bytes.items in
     let belief = sym (c.believed.ensures ∙ ap (λ device. device.belief) c.device-2.ensures) in
