@@ -6,6 +6,7 @@ pub mod Masks
 pub mod Missed
 pub mod Begun
 pub mod Changes
+pub mod Compared
 pub mod Ends
 pub mod Evidence
 pub mod Formed

@@ -1,5 +1,8 @@
 //! What two machines answer otherwise, from their files.
-ghost use Rattle.std.specs.Prelude.{◌≡◌, ◌≤◌, false, IfOk};
+ghost use Rattle.std.specs.Prelude.{◌≡◌, ◌≤◌, ◌==◌, false, length, nat_lt, not, true, IfOk};
+ghost use Rattle.text_parts.specs.Text.{texts_of};
+ghost use Rattle.answer_diff.specs.Differences.{differences, differences_of};
+ghost use Rattle.gz_modprobe_drive.specs.Compared.{AreChanges};
 ghost use Rattle.gz_modprobe_drive.specs.Begun.{AreBegun, WritesFacts};
 ghost use Rattle.gz_modprobe_drive.specs.Formed.{form_by};
 ghost use Rattle.gz_modprobe_drive.specs.Leads.{AreLines, WasTold};
@@ -20,7 +23,7 @@ use crate::why::{LeadLines, write_leads};
 use answer_diff::{Difference, differences};
 use answer_facts::Origin;
 use kmod_index::Index;
-use kmod_query::{Ask, Query, States};
+use kmod_query::{Ask, Query, States, World};
 use modprobe_files::{
     Host, Kind, LaterTexts, ModuleTexts, System, is_rootless, paths_by_rank, read_configuration,
     read_later, read_modules,
@@ -69,20 +72,28 @@ fn all_names(
     Ok(names)
 }
 
+/// The names of a list.
+fn lent<'a>(alloc: Global, all: &'a [Vec<u8>]) -> Result<Vec<&'a [u8]>, AllocError> {
+    let mut names = Vec::with_capacity(alloc, all.len())?;
+    for name in all {
+        names.push(name.as_slice())?;
+    }
+    Ok(names)
+}
+
 /// The names that are compared: those that are asked for, or else these.
 fn compared<'a>(
     alloc: Global,
     words: &[&'a [u8]],
     all: &'a [Vec<u8>],
-) -> Result<Vec<&'a [u8]>, AllocError> {
-    let mut names = Vec::from_slice(alloc, words)?;
-    if !names.is_empty() {
-        return Ok(names);
+) -> Result<Vec<&'a [u8]>, AllocError>
+    ensures { IfOk result (λ names. nat_lt 0 (length words.entry.now) ≡ true → texts_of names.items ≡ texts_of words.entry.now) }
+{
+    if words.is_empty() {
+        lent(alloc, all)
+    } else {
+        Vec::from_slice(alloc, words)
     }
-    for name in all {
-        names.push(name.as_slice())?;
-    }
-    Ok(names)
 }
 
 /// A machine's folder of modules as it is shown: as a dot, where the other machine has another one, since then each path would
@@ -119,7 +130,9 @@ fn lines_of<'a>(
     one: Origin<'a>,
     other: Origin<'a>,
 ) -> Result<LeadLines, AllocError>
-    ensures { IfOk result (λ lines. AreLines form lines.text.items) }
+    ensures lines { IfOk result (λ lines. AreLines form lines.text.items) }
+    ensures changes { IfOk result (λ lines. AreChanges form one.entry other.entry (differences_of all.entry.now) lines.text.items) }
+    ensures differ { IfOk result (λ lines. lines.is_missing ≡ not (length all.entry.now == 0)) }
 {
     let facts = changes(alloc, all, one, other)?;
     let text = lines_by(alloc, form, &facts)?;
@@ -127,6 +140,24 @@ fn lines_of<'a>(
         text,
         is_missing: !all.is_empty(),
     })
+}
+
+/// What two worlds answer otherwise to names, as lines of facts.
+fn told_lines<'a>(
+    alloc: Global,
+    world: &World<'_>,
+    other_world: &World<'_>,
+    query: &Query<'_>,
+    names: &[&[u8]],
+    form: Form,
+    one: Origin<'a>,
+    other: Origin<'a>,
+) -> Result<LeadLines, AllocError>
+    ensures lines { IfOk result (λ lines. AreLines form lines.text.items) }
+    ensures changes { IfOk result (λ lines. AreChanges form one.entry other.entry (differences world.now other_world.now query.now (texts_of names.now)) lines.text.items) }
+{
+    let all = differences(alloc, world, other_world, query, names)?;
+    lines_of(alloc, form, &all, one, other)
 }
 
 /// What the two machines answer otherwise, by what was read of them, and whether there is anything.
@@ -147,9 +178,17 @@ fn difference_lines<'a, S: System>(
     let every = all_names(alloc, index, other_index)?;
     let names = compared(alloc, &one.asked.words, &every)?;
     let query = query_of(one.asked.switches);
-    let all = differences(alloc, &world, &other_world, &query, &names)?;
     let form = form_by(one.asked.switches.explain);
-    lines_of(alloc, form, &all, origin_of(one), origin_of(other))
+    told_lines(
+        alloc,
+        &world,
+        &other_world,
+        &query,
+        &names,
+        form,
+        origin_of(one),
+        origin_of(other),
+    )
 }
 
 /// Compares over these texts of the folders of modules. Returns whether a name has another answer, or not all was written.
@@ -217,6 +256,23 @@ fn worst(first: u8, second: u8) -> u8
     if first >= second { first } else { second }
 }
 
+/// The worse status of the two machines.
+fn judge_both<S: System, E: Write>(
+    one: &Run<'_, S>,
+    tree: &Tree<'_>,
+    other: &Run<'_, S>,
+    other_tree: &Tree<'_>,
+    is_noted: bool,
+    messages: &mut Messages<'_, E>,
+) -> Result<u8, AllocError>
+    ensures status { IfOk result (λ status. status ≤ 2) }
+    ensures noted { IfOk result (λ status. status ≡ 0 → is_noted ≡ false) }
+{
+    let first = judge_one(one, tree, is_noted, messages)?;
+    let second = judge_one(other, other_tree, is_noted, messages)?;
+    Ok(worst(first, second))
+}
+
 fn compare_runs<S: System, O: Write, E: Write>(
     one: &Run<'_, S>,
     other: &Run<'_, S>,
@@ -232,9 +288,7 @@ fn compare_runs<S: System, O: Write, E: Write>(
     let other_later = read_later(other.host, other.directory, true, messages)?;
     let other_tree = Tree::of(other.host, other.directory, other.modules, &other_later)?;
     let is_noted = tell_differences(one, &later, other, &other_later, output, messages)?;
-    let first = judge_one(one, &tree, is_noted, messages)?;
-    let second = judge_one(other, &other_tree, is_noted, messages)?;
-    Ok(worst(first, second))
+    judge_both(one, &tree, other, &other_tree, is_noted, messages)
 }
 
 /// What is asked of the second machine. A configuration that is named for it stands beside the usual folders that are there,
@@ -255,6 +309,39 @@ fn second_asked<'a, S: System>(
     Ok(second)
 }
 
+/// Reads the second machine, by what is asked of it, and compares.
+fn compare_with<S: System, O: Write, E: Write>(
+    run: &Run<'_, S>,
+    other: &Host<'_, S>,
+    asked: &Asked<'_>,
+    output: &mut O,
+    messages: &mut Messages<'_, E>,
+) -> Result<u8, AllocError>
+    ensures status { IfOk result (λ status. status ≤ 2) }
+    ensures told { IfOk result (λ status. status ≡ 0 → WasTold (form_by run.now.asked.now.switches.explain) (O.contents output.old) (O.contents output.new)) }
+    ensures begun { WritesFacts (form_by run.now.asked.now.switches.explain) (O.contents output.old) (O.contents output.new) }
+{
+    if is_rootless(other, asked.root.unwrap_or(b""), messages)? {
+        return Ok(2);
+    }
+    let Some(directory) = known_directory(other, asked, messages)? else {
+        return Ok(2);
+    };
+    let named = asked.configurations.as_slice();
+    let texts = read_configuration(other, asked.kmod, &directory, named, messages)?;
+    let conf = conf_of(other.alloc(), &texts)?;
+    let modules = read_modules(other, &directory, messages)?;
+    let second = Run {
+        host: other,
+        asked,
+        directory: &directory,
+        texts: &texts,
+        conf: &conf,
+        modules: &modules,
+    };
+    compare_runs(run, &second, output, messages)
+}
+
 /// Tells what a second machine answers otherwise than the one that was read, on standard output. Returns the status: 0 if
 /// nothing, and all was written; 2 if not all was read that is needed of one of them, or a text of its folder of modules is
 /// damaged; else 1. It fails only if memory runs out.
@@ -269,23 +356,5 @@ pub(crate) fn compare<S: System, O: Write, E: Write>(
     ensures begun { WritesFacts (form_by run.now.asked.now.switches.explain) (O.contents output.old) (O.contents output.new) }
 {
     let asked = second_asked(other, run.asked)?;
-    if is_rootless(other, asked.root.unwrap_or(b""), messages)? {
-        return Ok(2);
-    }
-    let Some(directory) = known_directory(other, &asked, messages)? else {
-        return Ok(2);
-    };
-    let named = asked.configurations.as_slice();
-    let texts = read_configuration(other, asked.kmod, &directory, named, messages)?;
-    let conf = conf_of(other.alloc(), &texts)?;
-    let modules = read_modules(other, &directory, messages)?;
-    let second = Run {
-        host: other,
-        asked: &asked,
-        directory: &directory,
-        texts: &texts,
-        conf: &conf,
-        modules: &modules,
-    };
-    compare_runs(run, &second, output, messages)
+    compare_with(run, other, &asked, output, messages)
 }
