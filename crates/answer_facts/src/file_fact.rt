@@ -49,7 +49,7 @@ impl Unread {
     }
 
     /// The value in JSON.
-    pub(crate) fn word(self) -> &'static [u8]
+    pub fn word(self) -> &'static [u8]
         ensures { result.now ≡ unread_word self }
     {
         match self {

@@ -1,9 +1,10 @@
--- What a lint that finds nothing says.
-use Rattle.std.proofs.Common.{◌≡◌, ◌∙◌, ◌≤◌, ℕ, Bool, true, false, true≢false, ◌||◌, if◌then◌else◌, List, [], ◌∷◌, ◌++◌, map, Option, length, refl, sym, ap, subst, arith, eqb-true, ◌&&◌, ◌==◌}
-use Rattle.std.proofs.lemmas.List.Sorted.{length_permutation}
-use Rattle.std.specs.List.Sorted.{IsPermutation}
+-- What a lint says that finds nothing which counts.
+use Rattle.std.proofs.Common.{◌≡◌, ◌∙◌, ◌≤◌, ℕ, Bool, true, false, true≢false, ◌||◌, if◌then◌else◌, List, [], ◌∷◌, ◌++◌, map, Option, length, refl, sym, ap, subst, arith, eqb-true, ◌&&◌, ◌==◌, ◌+◌, nat_lt, length-append}
+use Rattle.std.proofs.lemmas.Bool.{ltb-false}
+use Rattle.std.proofs.lemmas.List.{length-map}
+use Rattle.std.specs.List.{list_any}
 use Rattle.machine_lint.specs.declared.note.Note.{Note}
-use Rattle.machine_lint.specs.Notes.{notes_of}
+use Rattle.machine_lint.specs.declared.known.Known.{Known}
 use Rattle.machine_lint.specs.Unchecked.{unchecked}
 use Rattle.modprobe_files.specs.declared.texts.ConfTexts.{ConfTexts}
 use Rattle.modprobe_files.specs.declared.texts.LaterTexts.{LaterTexts}
@@ -16,13 +17,15 @@ use Rattle.modprobe_words.specs.Asked.{Asked}
 use Rattle.gz_modprobe_drive.specs.Ends.{EndsWell, IsDone, WereAnswered, wish_by, worst_of}
 use Rattle.gz_modprobe_drive.specs.Formed.{form_by}
 use Rattle.gz_modprobe_drive.specs.Leads.{WasTold}
-use Rattle.answer_facts.specs.Facts.{pieces_of_facts}
-use Rattle.answer_facts.specs.Pieces.{Piece}
+use Rattle.answer_facts.specs.declared.fact.Fact.{Fact}
+use Rattle.answer_facts.specs.Facts.{pieces_of_fact, pieces_of_facts}
+use Rattle.answer_reasons.specs.declared.sources.UnreadFile.{UnreadFile}
 use Rattle.answer_reasons.specs.FileFacts.{unread_file}
+use Rattle.lint_ignores.specs.declared.ignore.Ignore.{Ignore}
+use Rattle.gz_modprobe_drive.specs.Counted.{is_counted, is_noted}
 use Rattle.gz_modprobe_drive.specs.LintFacts.{lint_pieces, pieces_of_note}
-use Rattle.gz_modprobe_drive.specs.Absences.{certain_notes}
 use Rattle.gz_modprobe_drive.specs.Masks.{hidden_notes}
-use Rattle.gz_modprobe_drive.specs.Linted.{IsUnnoted, WasLinted}
+use Rattle.gz_modprobe_drive.specs.Linted.{AreTold, FoundNothing, IsSilent, IsUnnoted, WasLinted}
 use Rattle.gz_modprobe_drive.specs.Judged.{status_by, status_of}
 use Rattle.gz_modprobe_drive.specs.Tree.{AreUncut, is_whole}
 use Rattle.gz_modprobe_drive.specs.declared.tree.Tree.{Tree}
@@ -32,50 +35,66 @@ without-length : {A : Type 0} (notes : List A) → ◌≡◌ {A = ℕ} (length n
 without-length [] e = refl
 without-length (note ∷ notes) e = absurd (omega arith)
 
-nothing : (all notes : List Note) → IsPermutation all notes → notes ≡ [] → all ≡ []
-nothing all notes same none = without-length all (sym (length_permutation all notes same) ∙ ap length none)
+without-first : (one other : Bool) → (one || other) ≡ false → one ≡ false
+without-first false other e = refl
+without-first true other e = absurd (true≢false e)
 
--- if nothing is told, nothing is noted
-no-notes : (texts : ConfTexts) (notes : List Note) (hidden rest : List (List Piece))
-    → map (pieces_of_note texts) notes ++ hidden ++ rest ≡ [] → notes ≡ []
-no-notes texts [] hidden rest e = refl
-no-notes texts (note ∷ notes) hidden rest e = absurd (cc)
+without-second : (one other : Bool) → (one || other) ≡ false → other ≡ false
+without-second false other e = e
+without-second true other e = absurd (true≢false e)
 
--- nor is a file hidden
-no-hidden : (texts : ConfTexts) (notes : List Note) (hidden rest : List (List Piece))
-    → map (pieces_of_note texts) notes ++ hidden ++ rest ≡ [] → hidden ≡ []
-no-hidden texts [] [] rest e = refl
-no-hidden texts [] (said ∷ others) rest e = absurd (cc)
-no-hidden texts (note ∷ notes) hidden rest e = absurd (cc)
+-- what is told of notes, hidden files and others has as many parts as these are
+parts : {X Y : Type 0} (f : X → Y) (notes : List X) (hidden rest : List Y)
+    → length (map f notes ++ hidden ++ rest) ≡ length notes + length hidden + length rest
+parts f notes hidden rest =
+    omega (arith, length-append (map f notes ++ hidden) rest, length-append (map f notes) hidden, length-map notes f)
 
--- over whole texts, what is certain is all
-all-certain : (whole : Bool) (notes : List Note) → whole ≡ true → certain_notes whole notes ≡ notes
-all-certain true notes e = refl
-all-certain false notes e = absurd (true≢false (sym e))
+-- if no fact is more than the notes are, no file is hidden
+no-hidden : {X Y Z : Type 0} (f : X → Y) (g : Z → Y) (notes : List X) (hidden rest : List Y) (facts : List Z)
+    → map g facts ≡ map f notes ++ hidden ++ rest → nat_lt (length notes) (length facts) ≡ false → hidden ≡ []
+no-hidden f g notes hidden rest facts are more =
+    without-length hidden
+    (omega (arith, length-map facts g, ap length are, parts f notes hidden rest, ltb-false (length notes) (length facts) more))
 
--- a silent lint of what whole texts say noted no line of them
-pub was-linted : (whole : Bool) (count : ℕ) (texts : ConfTexts) (modules : ModuleTexts) (later : LaterTexts)
-    (before after : Option (List ℕ)) → whole ≡ true → count ≡ 0 → AreUncut modules later → IsUnnoted whole count texts modules later before after
-    → WasLinted texts.kmod before after
-was-linted whole count texts modules later before after all-whole all-checked uncut unnoted =
-    let found = unnoted.nothing.found in
-    let notes = certain_notes whole found.all in
-    let empty : lint_pieces texts notes found.unread ≡ [] = sym found.are ∙ ap pieces_of_facts unnoted.nothing.silent.none in
-    let none : notes ≡ [] = no-notes texts notes (hidden_notes texts) (map unread_file found.unread) empty
-    in record {
-      texts = texts;
-      modules = modules;
-      later = later;
-      directory = unnoted.directory;
-      known = unnoted.known;
-      version = refl;
-      is = unnoted.is;
-      uncut = uncut;
-      none = nothing (notes_of unnoted.known) found.all found.noted (sym (all-certain whole found.all all-whole) ∙ none);
-      checked = without-length (unchecked unnoted.known) (sym unnoted.checked ∙ all-checked);
-      read = no-hidden texts notes (hidden_notes texts) (map unread_file found.unread) empty;
-      kept = unnoted.nothing.silent.kept;
+no-facts : {X Z : Type 0} (notes : List X) (facts : List Z) → nat_lt (length notes) (length facts) ≡ false → notes ≡ [] → facts ≡ []
+no-facts [] facts more none = without-length facts (omega (arith, ltb-false 0 (length facts) more))
+no-facts (note ∷ notes) facts more none = absurd (cc)
+
+-- nothing counts of what is told
+pub found-nothing : (whole strict : Bool) (texts : ConfTexts) (known : Known) (ignores : List Ignore) (notes : List Note) (unread : List UnreadFile) (facts : List Fact)
+    (before after : Option (List ℕ)) → AreTold whole texts known ignores notes → pieces_of_facts facts ≡ lint_pieces texts ignores notes unread
+    → IsSilent facts before after → is_noted strict notes facts ≡ false
+    → FoundNothing whole strict texts known ignores before after
+found-nothing whole strict texts known ignores notes unread facts before after told are silent none =
+    let counts = list_any (is_counted strict) notes in
+    let more = nat_lt (length notes) (length facts) in
+    record {
+      notes = notes;
+      told = told;
+      none = without-first counts more none;
+      read = no-hidden (pieces_of_note texts) pieces_of_fact notes (hidden_notes texts ignores) (map unread_file unread) facts are (without-second counts more none);
+      kept = λ empty. silent (no-facts notes facts (without-second counts more none) empty);
     }
+
+-- a lint that found nothing that counts over whole texts
+pub was-linted : (whole strict : Bool) (count : ℕ) (texts : ConfTexts) (modules : ModuleTexts) (later : LaterTexts)
+    (before after : Option (List ℕ)) → whole ≡ true → count ≡ 0 → AreUncut modules later → IsUnnoted whole strict count texts modules later before after
+    → WasLinted texts.kmod strict before after
+was-linted whole strict count texts modules later before after all-whole all-checked uncut unnoted = record {
+  texts = texts;
+  modules = modules;
+  later = later;
+  directory = unnoted.directory;
+  known = unnoted.known;
+  files = unnoted.files;
+  ignores = unnoted.ignores;
+  version = refl;
+  is = unnoted.is;
+  uncut = uncut;
+  ignored = unnoted.ignored;
+  nothing = subst (λ w. FoundNothing w strict texts unnoted.known unnoted.ignores before after) all-whole unnoted.nothing;
+  checked = without-length (unchecked unnoted.known) (sym unnoted.checked ∙ all-checked);
+}
 
 -- a status of 0 says that all could be judged, that nothing is noted, and that all was checked
 zero-judged : (judged noted checked : Bool) → status_by judged noted checked ≡ 0 → judged ≡ true
@@ -101,19 +120,19 @@ pub none-noted : (tree : Tree) (read noted : Bool) (count status : ℕ) → stat
 none-noted tree read noted count status is zero = zero-noted (is_whole tree && read) noted (count == 0) (sym is ∙ zero)
 
 -- a lint that ends with 0 found nothing
-pub linted-well : (kmod : Kmod) (texts : ConfTexts) (modules : ModuleTexts) (later : LaterTexts) (tree : Tree) (read noted : Bool) (count status : ℕ)
+pub linted-well : (kmod : Kmod) (strict : Bool) (texts : ConfTexts) (modules : ModuleTexts) (later : LaterTexts) (tree : Tree) (read noted : Bool) (count status : ℕ)
     (before after : Option (List ℕ)) → texts.kmod ≡ kmod → (is_whole tree ≡ true → AreUncut modules later)
-    → (noted ≡ false → IsUnnoted (is_whole tree) count texts modules later before after) → status ≡ status_of tree read noted count → status ≡ 0
-    → WasLinted kmod before after
-linted-well kmod texts modules later tree read noted count status before after same uncut none is zero =
+    → (noted ≡ false → IsUnnoted (is_whole tree) strict count texts modules later before after) → status ≡ status_of tree read noted count → status ≡ 0
+    → WasLinted kmod strict before after
+linted-well kmod strict texts modules later tree read noted count status before after same uncut none is zero =
     let e : status_by (is_whole tree && read) noted (count == 0) ≡ 0 = sym is ∙ zero in
     let whole : is_whole tree ≡ true = first (is_whole tree) read (zero-judged (is_whole tree && read) noted (count == 0) e) in
-    subst (λ k. WasLinted k before after) same
-    (was-linted (is_whole tree) count texts modules later before after whole (eqb-true count 0 (zero-checked (is_whole tree && read) noted (count == 0) e))
+    subst (λ k. WasLinted k strict before after) same
+    (was-linted (is_whole tree) strict count texts modules later before after whole (eqb-true count 0 (zero-checked (is_whole tree && read) noted (count == 0) e))
     (uncut whole) (none (zero-noted (is_whole tree && read) noted (count == 0) e)))
 
 -- how a run ends well, by what it asks for
-ends-lint : (lint why : Bool) (asked : Asked) (before after : Option (List ℕ)) → lint ≡ true → WasLinted asked.kmod before after → EndsWell lint why asked before after
+ends-lint : (lint why : Bool) (asked : Asked) (before after : Option (List ℕ)) → lint ≡ true → WasLinted asked.kmod asked.switches.strict before after → EndsWell lint why asked before after
 ends-lint true why asked before after e done = done
 ends-lint false why asked before after e done = absurd (true≢false (sym e))
 
@@ -129,7 +148,7 @@ ends-query true why asked before after e f done = absurd (true≢false e)
 
 -- a lint that found nothing is done
 pub lint-done : (asked : Asked) (wish : Wish) (before after : Option (List ℕ)) → wish ≡ wish_by asked → is_lint wish ≡ true
-    → WasLinted asked.kmod before after → IsDone asked before after
+    → WasLinted asked.kmod asked.switches.strict before after → IsDone asked before after
 lint-done asked wish before after is lints done =
     ends-lint (is_lint (wish_by asked)) (is_why (wish_by asked)) asked before after (ap is_lint (sym is) ∙ lints) done
 

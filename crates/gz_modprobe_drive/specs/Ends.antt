@@ -57,10 +57,10 @@ pub record WereAnswered (asked : Asked) (before after : Option (List ℕ)) : Typ
   pub asks : IsQueryOf (wish_by asked) asked.switches asked.words query
   pub answered : WasAnswered asked.kmod asked.switches.whole (shape_of asked.switches) query before after
 
--- A lint ends well if nothing was noted, what leads to names if facts of it were written, and a query if it was answered
+-- A lint ends well if nothing was noted that counts, what leads to names if facts of it were written, and a query if it was answered
 -- well.
 abbrev pub EndsWell : Bool → Bool → Asked → Option (List ℕ) → Option (List ℕ) → Type 0
-EndsWell true why asked before after = WasLinted asked.kmod before after
+EndsWell true why asked before after = WasLinted asked.kmod asked.switches.strict before after
 EndsWell false true asked before after = WasTold (form_by asked.switches.explain) before after
 EndsWell false false asked before after = WereAnswered asked before after
 

@@ -31,7 +31,7 @@ worst_job (Answer query) = 1
 
 -- it ended well
 abbrev pub JobEnds : Job → Asked → Option (List ℕ) → Option (List ℕ) → Type 0
-JobEnds Lint asked before after = WasLinted asked.kmod before after
+JobEnds Lint asked before after = WasLinted asked.kmod asked.switches.strict before after
 JobEnds Why asked before after = WasTold (form_by asked.switches.explain) before after
 JobEnds Diff asked before after = WasTold (form_by asked.switches.explain) before after
 JobEnds (Answer query) asked before after = WasAnswered asked.kmod asked.switches.whole (shape_of asked.switches) query before after

@@ -7,9 +7,11 @@ pub mod Missed
 pub mod Begun
 pub mod Changes
 pub mod Compared
+pub mod Counted
 pub mod Ends
 pub mod Evidence
 pub mod Formed
+pub mod Ignored
 pub mod Jobs
 pub mod Judged
 pub mod Leads

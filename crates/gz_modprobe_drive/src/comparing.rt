@@ -333,6 +333,9 @@ fn compare_with<S: System, O: Write, E: Write>(
     let modules = read_modules(other, &directory, messages)?;
     let second = Run {
         host: other,
+        beside: run.beside,
+        is_beside: false,
+        named,
         asked,
         directory: &directory,
         texts: &texts,

@@ -7,6 +7,7 @@ use crate::masks::add_unmasked;
 use answer_facts::{Fact, NoteFact, Spot, What, counting_place};
 use answer_reasons::{UnreadFile, add_unread};
 use kmod_names::Place;
+use lint_ignores::Ignore;
 use machine_lint::Note;
 use modprobe_files::ConfTexts;
 use std::alloc::{AllocError, Global};
@@ -48,19 +49,20 @@ fn add_notes<'a>(
     Ok(())
 }
 
-/// What a lint of a configuration tells: a fact for each note, and then for each file that is not read, unless it is masked. It
-/// fails only if memory runs out.
+/// What a lint of a configuration tells: a fact for each note, and then for each file that is not read, unless it is masked or
+/// ignored. It fails only if memory runs out.
 pub(crate) fn lint_facts<'a>(
     alloc: Global,
     texts: &'a ConfTexts,
+    ignores: &[Ignore],
     notes: &'a [Note],
     unread: &'a [UnreadFile],
 ) -> Result<Vec<Fact<'a>>, AllocError>
-    ensures { IfOk result (λ facts. pieces_of_facts facts.items ≡ lint_pieces texts.entry.now notes.entry.now unread.entry.now) }
+    ensures { IfOk result (λ facts. pieces_of_facts facts.items ≡ lint_pieces texts.entry.now ignores.now notes.entry.now unread.entry.now) }
 {
     let mut facts = Vec::new(alloc);
     add_notes(texts, notes, &mut facts)?;
-    add_unmasked(texts, &mut facts)?;
+    add_unmasked(texts, ignores, &mut facts)?;
     add_unread(unread, &mut facts)?;
     Ok(facts)
 }

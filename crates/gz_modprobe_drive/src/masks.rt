@@ -2,10 +2,11 @@
 ghost use Rattle.std.specs.Prelude.{◌≡◌, ◌++◌, OnOk};
 ghost use Rattle.answer_facts.specs.Facts.{pieces_of_fact, pieces_of_facts};
 ghost use Rattle.answer_reasons.specs.FileFacts.{hidden_file};
-ghost use Rattle.gz_modprobe_drive.specs.Masks.{hidden_note, hidden_notes, is_empty_at, is_masked};
+ghost use Rattle.gz_modprobe_drive.specs.Masks.{hidden_note, hidden_notes, is_empty_at, is_masked, is_quiet};
 ghost use Rattle.gz_modprobe_drive.specs.Origins.{is_of_package};
 
 use answer_facts::{Fact, FileFact, Spot, What};
+use lint_ignores::{Ignore, is_file_left};
 use modprobe_files::{ConfTexts, HiddenFile, TextFile};
 use std::alloc::AllocError;
 use text_parts::is_same;
@@ -32,6 +33,13 @@ fn is_masked(files: &[TextFile], file: &HiddenFile) -> bool
     is_of_package(&file.path) && is_empty_at(files, &file.by)
 }
 
+/// Whether a hidden file is not told: it is masked, or ignored.
+fn is_quiet(files: &[TextFile], ignores: &[Ignore], file: &HiddenFile) -> bool
+    ensures { result ≡ is_quiet files.now ignores.now file.now }
+{
+    is_masked(files, file) || !is_file_left(ignores, &file.path, b"hidden")
+}
+
 fn fact_of_hidden(file: &HiddenFile) -> Fact<'_>
     ensures { pieces_of_fact result ≡ hidden_file file.entry.now }
 {
@@ -42,31 +50,33 @@ fn fact_of_hidden(file: &HiddenFile) -> Fact<'_>
     }
 }
 
-/// Adds what is said of a hidden file, unless it is masked.
+/// Adds what is said of a hidden file, unless it is quiet.
 fn add_one<'a>(
     files: &[TextFile],
+    ignores: &[Ignore],
     file: &'a HiddenFile,
     facts: &mut Vec<Fact<'a>>,
 ) -> Result<(), AllocError>
-    ensures { OnOk result (pieces_of_facts facts.new.items ≡ pieces_of_facts facts.old.items ++ hidden_note files.now file.entry.now) }
+    ensures { OnOk result (pieces_of_facts facts.new.items ≡ pieces_of_facts facts.old.items ++ hidden_note files.now ignores.now file.entry.now) }
 {
-    if !is_masked(files, file) {
+    if !is_quiet(files, ignores, file) {
         facts.push(fact_of_hidden(file))?;
     }
     Ok(())
 }
 
-/// Adds a fact for each file that another one of its name hides and that is not masked, in their order. It fails only if
+/// Adds a fact for each file that another one of its name hides and that is neither masked nor ignored, in their order. It fails only if
 /// memory runs out.
 pub(crate) fn add_unmasked<'a>(
     texts: &'a ConfTexts,
+    ignores: &[Ignore],
     facts: &mut Vec<Fact<'a>>,
 ) -> Result<(), AllocError>
-    ensures { OnOk result (pieces_of_facts facts.new.items ≡ pieces_of_facts facts.old.items ++ hidden_notes texts.entry.now) }
+    ensures { OnOk result (pieces_of_facts facts.new.items ≡ pieces_of_facts facts.old.items ++ hidden_notes texts.entry.now ignores.now) }
 {
     let hidden = texts.hidden.as_slice();
     for file in hidden {
-        add_one(&texts.files, file, facts)?;
+        add_one(&texts.files, ignores, file, facts)?;
     }
     Ok(())
 }

@@ -154,10 +154,10 @@ pub(crate) fn is_all_read<S: System, E: Write>(
     run: &Run<'_, S>,
     messages: &mut Messages<'_, E>,
 ) -> Result<bool, AllocError> {
-    let named = run.asked.configurations.as_slice();
+    let (host, named) = (run.configuration_host(), run.named);
     let mut is_whole = true;
     for path in paths_by_rank(run.texts.kmod, named) {
-        if !is_path_read(run.host, run.texts, *path, !named.is_empty(), messages)? {
+        if !is_path_read(host, run.texts, *path, !named.is_empty(), messages)? {
             is_whole = false;
         }
     }

@@ -32,6 +32,13 @@ fn explains(job: Job<'_>, switches: Switches) -> bool {
     !matches!(job, Job::Answer(_)) || switches.explain.is_some()
 }
 
+/// The files below a root, or all if it is empty.
+fn files_below<'a, R: Files + Env + AllocGlobal>(rt: &'a R, root: &'a [u8]) -> Regular<'a, R> {
+    Regular {
+        disk: Disk { rt, root },
+    }
+}
+
 /// Does what is asked, unless that is refused. Returns the status.
 fn perform_asked<R: Files + Env + AllocGlobal, O: Write, E: Write>(
     rt: &R,
@@ -48,27 +55,19 @@ fn perform_asked<R: Files + Env + AllocGlobal, O: Write, E: Write>(
         tell_refusal(wish, errors);
         return Ok(1);
     };
-    let regular = Regular {
-        disk: Disk {
-            rt,
-            root: asked.root.unwrap_or(b""),
-        },
-    };
-    let host = Host { system: &regular };
-    let other = Regular {
-        disk: Disk {
-            rt,
-            root: asked.other.root.or(asked.root).unwrap_or(b""),
-        },
-    };
-    let other_host = Host { system: &other };
+    let root = asked.root.unwrap_or(b"");
+    let regular = files_below(rt, root);
+    let unrooted = files_below(rt, &root[..0]);
+    let compared = files_below(rt, asked.other.root.unwrap_or(root));
+    let (host, beside) = (Host { system: &regular }, Host { system: &unrooted });
+    let other = Host { system: &compared };
     let mut messages = Messages {
         errors,
         program: b"gz-modprobe",
         verbosity: asked.switches.verbosity,
         explains: explains(job, asked.switches),
     };
-    read_and_perform(&host, &other_host, asked, job, output, &mut messages)
+    read_and_perform(&host, &beside, &other, asked, job, output, &mut messages)
 }
 
 /// Whether `--root` has an empty value, as where a script's variable is unset. It is not to stand for the machine itself.

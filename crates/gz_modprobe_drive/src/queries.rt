@@ -21,7 +21,6 @@ fn ask_of(wish: Wish) -> Option<Ask>
         | Wish::Why
         | Wish::Diff
         | Wish::NoName
-        | Wish::LintOfName
         | Wish::ShowModule
         | Wish::RemoveHolders
         | Wish::Load

@@ -26,15 +26,6 @@ fn tell_hint<E: Write>(what: &[u8], words: &[u8], verb: &[u8], errors: &mut E) {
 pub(crate) fn tell_refusal<E: Write>(wish: Wish, errors: &mut E) {
     match wish {
         Wish::NoName => tell_line(errors, b"ERROR: ", b"missing parameters.", b" See -h."),
-        Wish::LintOfName => {
-            let text = b"--lint looks at the whole configuration,";
-            tell_line(
-                errors,
-                b"ERROR: ",
-                text,
-                b" and takes no name: -C names a file of it",
-            );
-        }
         Wish::ShowModule => {
             tell_line(
                 errors,

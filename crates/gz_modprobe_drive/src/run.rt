@@ -5,6 +5,7 @@ ghost use Rattle.gz_modprobe_drive.specs.Jobs.{JobBegun, JobEnds, JobWrites, wor
 ghost use Rattle.gz_modprobe_drive.specs.Texts.{IsConfOf};
 
 use crate::answering::answer_query;
+use crate::beside::{is_beside, named_paths, read_texts};
 use crate::comparing::compare;
 use crate::configuration::conf_of;
 use crate::current::known_directory;
@@ -13,9 +14,7 @@ use crate::linting::lint_machine;
 use crate::shown::shown;
 use crate::why::tell_why;
 use kmod_conf::Conf;
-use modprobe_files::{
-    ConfTexts, Host, ModuleTexts, System, is_rootless, read_configuration, read_modules,
-};
+use modprobe_files::{ConfTexts, Host, ModuleTexts, System, is_rootless, read_modules};
 use modprobe_words::{Asked, Level, Messages};
 use std::alloc::AllocError;
 use std::io::Write;
@@ -24,6 +23,12 @@ use std::io::Write;
 #[derive(Drop)]
 pub(crate) struct Run<'a, S> {
     pub(crate) host: &'a Host<'a, S>,
+    /// The files of the system, whatever the root is.
+    pub(crate) beside: &'a Host<'a, S>,
+    /// Whether the configuration lies there.
+    pub(crate) is_beside: bool,
+    /// The paths of the configuration that are named.
+    pub(crate) named: &'a [&'a [u8]],
     pub(crate) asked: &'a Asked<'a>,
     /// The folder of modules, as it is printed.
     pub(crate) directory: &'a [u8],
@@ -33,7 +38,16 @@ pub(crate) struct Run<'a, S> {
     pub(crate) modules: &'a ModuleTexts,
 }
 
-impl<S: System> Run<'_, S> {
+impl<'a, S: System> Run<'a, S> {
+    /// Whose files the configuration is of.
+    pub(crate) fn configuration_host(&self) -> &'a Host<'a, S> {
+        if self.is_beside {
+            self.beside
+        } else {
+            self.host
+        }
+    }
+
     /// Tells the lines of the configuration that say nothing. No byte of them has an effect on a terminal.
     pub(crate) fn tell_bad_lines<E: Write>(
         &self,
@@ -75,10 +89,12 @@ fn perform<S: System, O: Write, E: Write>(
     }
 }
 
-/// Reads the configuration and the folder of modules, and does a job, for which another machine's files may count. Where the root is missing, or that folder's path is not
-/// known, it is told, and nothing is done. Returns the status. It fails only if memory runs out.
+/// Reads the configuration and the folder of modules, and does a job. `beside` has the files of the system, whatever the root is,
+/// and `other` those of another machine, which may count. Where the root is missing, or that folder's path is not known, it is
+/// told, and nothing is done. Returns the status. It fails only if memory runs out.
 pub(crate) fn read_and_perform<S: System, O: Write, E: Write>(
     host: &Host<'_, S>,
+    beside: &Host<'_, S>,
     other: &Host<'_, S>,
     asked: &Asked<'_>,
     job: Job<'_>,
@@ -95,12 +111,14 @@ pub(crate) fn read_and_perform<S: System, O: Write, E: Write>(
     let Some(directory) = known_directory(host, asked, messages)? else {
         return Ok(unread_status(job));
     };
-    let named = asked.configurations.as_slice();
-    let texts = read_configuration(host, asked.kmod, &directory, named, messages)?;
+    let texts = read_texts(host, beside, asked, job, &directory, messages)?;
     let conf = conf_of(host.alloc(), &texts)?;
     let modules = read_modules(host, &directory, messages)?;
     let run = Run {
         host,
+        beside,
+        is_beside: is_beside(asked, job),
+        named: named_paths(asked, job),
         asked,
         directory: &directory,
         texts: &texts,

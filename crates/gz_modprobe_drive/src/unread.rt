@@ -86,11 +86,7 @@ fn is_again(paths: &[&[u8]], number: usize, path: &[u8]) -> bool {
 /// the folders and of the bytes of names. /lib/modprobe.d is skipped if it has just the names of the folder before it, as if
 /// /lib is a link to /usr/lib. It fails only if memory runs out.
 pub(crate) fn unread_files<S: System>(run: &Run<'_, S>) -> Result<Vec<UnreadFile>, AllocError> {
-    let (host, kmod, named) = (
-        run.host,
-        run.asked.kmod,
-        run.asked.configurations.as_slice(),
-    );
+    let (host, kmod, named) = (run.configuration_host(), run.asked.kmod, run.named);
     let alloc = host.alloc();
     let mut unread = Vec::new(alloc);
     let mut before: Vec<Vec<u8>> = Vec::new(alloc);

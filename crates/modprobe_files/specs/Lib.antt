@@ -7,3 +7,4 @@ pub mod Places
 pub mod Releases
 pub mod Rooted
 pub mod Texts
+pub mod Beside

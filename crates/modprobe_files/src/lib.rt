@@ -1,6 +1,7 @@
 //! The files of modprobe(8): which of them count, and what they hold.
 #![tactic(auto)]
 
+mod beside;
 mod disk;
 mod faults;
 mod files;
@@ -16,6 +17,7 @@ mod texts;
 mod walk;
 mod whole_files;
 
+pub use beside::{is_of_folder, read_beside};
 pub use disk::Disk;
 pub use faults::{is_rootless, reason, tell_folder, tell_unread};
 pub use files::{File, Name, Source, counted_files, is_read};

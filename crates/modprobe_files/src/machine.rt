@@ -22,7 +22,7 @@ use std::io::{ErrorKind, Write};
 const RELEASE: &[u8] = b"/proc/sys/kernel/osrelease";
 
 /// The text of a file that may be missing. One that cannot be read is reported, and has no text.
-fn text_of<S: System, E: Write>(
+pub(crate) fn text_of<S: System, E: Write>(
     host: &Host<'_, S>,
     path: &[u8],
     messages: &mut Messages<'_, E>,
@@ -124,7 +124,7 @@ fn read_files<S: System, E: Write>(
 }
 
 /// The files that count, and, if answers are explained, those that do not.
-fn chosen_files<S: System, E: Write>(
+pub(crate) fn chosen_files<S: System, E: Write>(
     host: &Host<'_, S>,
     kmod: Kmod,
     directory: &[u8],

@@ -41,6 +41,7 @@ with_switch s switch.Why = record s { why = true }
 with_switch s switch.Json = record s { json = true; explain = Some Json }
 with_switch s switch.Shell = record s { shell = true }
 with_switch s switch.Diff = record s { diff = true }
+with_switch s switch.Strict = record s { strict = true }
 with_switch s switch.Force = s
 with_switch s switch.ForceModversion = s
 with_switch s switch.ForceVermagic = s
@@ -69,6 +70,7 @@ no_switch =
       json = false;
       shell = false;
       diff = false;
+      strict = false;
       verbosity = 4;
     }
 
@@ -86,10 +88,11 @@ pub record Other : Type 0 where
 abbrev pub no_other : Other
 no_other = record { configurations = []; directory = None; release = None; root = None }
 
--- options without values, each -C, the last -d, -S, --root and --as, what stands behind --diff, and the other words
+-- options without values, each -C, each --ignore, the last -d, -S, --root and --as, what stands behind --diff, and the other words
 pub record Asked : Type 0 where
   pub switches : Switches
   pub configurations : List (List ℕ)
+  pub ignores : List (List ℕ)
   pub directory : Option (List ℕ)
   pub release : Option (List ℕ)
   pub root : Option (List ℕ)
@@ -106,6 +109,7 @@ with_option a valued.Root text = record a { root = Some text }
 with_option a valued.As text = record a { kmod = unwrap_or (kmod_of text) a.kmod }
 with_option a valued.Explain text = record a { switches = with_form a.switches (form_of text) }
 with_option a valued.Lint text = record a { switches = with_form (with_switch a.switches switch.Lint) (form_of text) }
+with_option a valued.Ignore text = record a { ignores = a.ignores ++ text ∷ [] }
 
 -- an option that says which files are meant
 abbrev pub names_files : Valued → Bool
@@ -117,6 +121,7 @@ names_files valued.Wait = false
 names_files valued.As = false
 names_files valued.Explain = false
 names_files valued.Lint = false
+names_files valued.Ignore = false
 
 abbrev pub with_place : Other → Valued → List ℕ → Other
 with_place o valued.Config text = record o { configurations = o.configurations ++ text ∷ [] }
@@ -127,6 +132,7 @@ with_place o valued.Wait text = o
 with_place o valued.As text = o
 with_place o valued.Explain text = o
 with_place o valued.Lint text = o
+with_place o valued.Ignore text = o
 
 -- behind --diff such an option is about the other machine
 abbrev pub with_valued : Asked → Valued → List ℕ → Asked
@@ -145,6 +151,7 @@ nothing_asked =
     record {
       switches = no_switch;
       configurations = [];
+      ignores = [];
       directory = None;
       release = None;
       root = None;
@@ -175,6 +182,7 @@ asked_of a =
     record {
       switches = a.switches;
       configurations = texts_of a.configurations.items;
+      ignores = texts_of a.ignores.items;
       directory = text_of a.directory;
       release = text_of a.release;
       root = text_of a.root;

@@ -1,5 +1,5 @@
--- The options of modprobe(8), and `--explain`, `--lint`, `--root`, `--as`, `--whole`, `--why`, `--json`, `--shell` and
--- `--diff`, which it has not.
+-- The options of modprobe(8), and `--explain`, `--lint`, `--root`, `--as`, `--whole`, `--why`, `--json`, `--shell`, `--diff`,
+-- `--strict` and `--ignore=FILE`, which it has not.
 use Rattle.std.specs.Prelude.{ℕ, Bool, true, false, ◌+◌, ◌==◌, if◌then◌else◌, List, [], ◌∷◌, codes, Option, Some, None}
 use Rattle.modprobe_words.specs.declared.options.Switch.{Switch}
 use Rattle.modprobe_words.specs.declared.options.Switch.TheVariants as switch
@@ -8,7 +8,7 @@ use Rattle.modprobe_words.specs.declared.options.Valued.TheVariants as valued
 use Rattle.modprobe_words.specs.declared.options.Meaning.{Meaning}
 use Rattle.modprobe_words.specs.declared.options.Meaning.TheVariants.{Plain, WithValue}
 use Rattle.modprobe_words.specs.declared.options.LongOption.{LongOption}
-use Rattle.modprobe_words.specs.declared.options.LongOption.TheVariants.{AllWord, RemoveWord, RemoveDependenciesWord, RemoveHoldersWord, WaitWord, ResolveAliasWord, FirstTimeWord, IgnoreInstallWord, IgnoreRemoveWord, UseBlacklistWord, ForceWord, ForceModversionWord, ForceVermagicWord, ShowDependsWord, ShowconfigWord, ShowConfigWord, ShowModversionsWord, DumpModversionsWord, ShowExportsWord, DryRunWord, ShowWord, ConfigWord, DirnameWord, SetVersionWord, SyslogWord, QuietWord, VerboseWord, VersionWord, HelpWord, ExplainWord, LintWord, RootWord, AsWord, WholeWord, WhyWord, JsonWord, ShellWord, DiffWord}
+use Rattle.modprobe_words.specs.declared.options.LongOption.TheVariants.{AllWord, RemoveWord, RemoveDependenciesWord, RemoveHoldersWord, WaitWord, ResolveAliasWord, FirstTimeWord, IgnoreInstallWord, IgnoreRemoveWord, UseBlacklistWord, ForceWord, ForceModversionWord, ForceVermagicWord, ShowDependsWord, ShowconfigWord, ShowConfigWord, ShowModversionsWord, DumpModversionsWord, ShowExportsWord, DryRunWord, ShowWord, ConfigWord, DirnameWord, SetVersionWord, SyslogWord, QuietWord, VerboseWord, VersionWord, HelpWord, ExplainWord, LintWord, RootWord, AsWord, WholeWord, WhyWord, JsonWord, ShellWord, DiffWord, StrictWord, IgnoreWord}
 
 -- the option of a letter
 unfoldable pub meaning_of_letter : ℕ → Option Meaning
@@ -72,6 +72,7 @@ valued_number valued.Root = 4
 valued_number valued.As = 5
 valued_number valued.Explain = 6
 valued_number valued.Lint = 7
+valued_number valued.Ignore = 8
 
 unfoldable pub kind_of : Meaning → ℕ
 kind_of (Plain switch) = switch_number switch
@@ -117,6 +118,8 @@ word_of WhyWord = codes "why"
 word_of JsonWord = codes "json"
 word_of ShellWord = codes "shell"
 word_of DiffWord = codes "diff"
+word_of StrictWord = codes "strict"
+word_of IgnoreWord = codes "ignore"
 
 unfoldable pub meaning_of : LongOption → Meaning
 meaning_of AllWord = Plain switch.All
@@ -157,6 +160,8 @@ meaning_of WhyWord = Plain switch.Why
 meaning_of JsonWord = Plain switch.Json
 meaning_of ShellWord = Plain switch.Shell
 meaning_of DiffWord = Plain switch.Diff
+meaning_of StrictWord = Plain switch.Strict
+meaning_of IgnoreWord = Plain switch.IgnoreCommands
 
 -- in the order of `modprobe --help`
 unfoldable pub long_options : List LongOption
@@ -168,20 +173,24 @@ long_options =
     ∷ ShowWord ∷ ConfigWord ∷ DirnameWord ∷ SetVersionWord ∷ SyslogWord
     ∷ QuietWord ∷ VerboseWord ∷ VersionWord ∷ HelpWord ∷ ExplainWord
     ∷ LintWord ∷ RootWord ∷ AsWord ∷ WholeWord ∷ WhyWord
-    ∷ JsonWord ∷ ShellWord ∷ DiffWord ∷ []
+    ∷ JsonWord ∷ ShellWord ∷ DiffWord ∷ StrictWord ∷ IgnoreWord ∷ []
 
--- An option that may be cut. `--as`, `--whole`, `--why`, `--shell` and `--diff` may not, so that `--a` is `--all`, `--w` is
--- `--wait` and `--di` is `--dirname`, as with modprobe.
+-- An option that may be cut. `--as`, `--whole`, `--why`, `--shell`, `--diff`, `--strict` and `--ignore` may not, so that `--a` is
+-- `--all`, `--w` is `--wait` and `--di` is `--dirname`, as with modprobe. With modprobe `--ignore` is `--ignore-install` cut
+-- short, and so it is without a value.
 abbrev pub may_be_cut : LongOption → Bool
 may_be_cut AsWord = false
 may_be_cut WholeWord = false
 may_be_cut WhyWord = false
 may_be_cut ShellWord = false
 may_be_cut DiffWord = false
+may_be_cut StrictWord = false
+may_be_cut IgnoreWord = false
 may_be_cut option = true
 
--- what an option without a value stands for if it has one all the same; only `--explain` and `--lint` may have one
+-- what an option without a value stands for if it has one all the same; only `--explain`, `--lint` and `--ignore` may have one
 abbrev pub valued_form : LongOption → Option Valued
 valued_form ExplainWord = Some valued.Explain
 valued_form LintWord = Some valued.Lint
+valued_form IgnoreWord = Some valued.Ignore
 valued_form _ = None

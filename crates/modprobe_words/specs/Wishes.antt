@@ -29,6 +29,6 @@ asks s has_name =
 abbrev pub asks_of_two : Switches → Bool → Wish
 asks_of_two s has_name = if s.diff then wish.Diff else asks s has_name
 
--- with `--lint` no name is looked up, whatever else is given
+-- with `--lint` no name is looked up, whatever else is given: its words are files
 unfoldable pub wish_of : Switches → Bool → Wish
-wish_of s has_name = if s.lint then (if has_name then wish.LintOfName else wish.Lint) else asks_of_two s has_name
+wish_of s has_name = if s.lint then wish.Lint else asks_of_two s has_name

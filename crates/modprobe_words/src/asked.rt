@@ -54,7 +54,7 @@ impl<'a> Other<'a> {
             Valued::Dirname => self.directory = Some(text),
             Valued::SetVersion => self.release = Some(text),
             Valued::Root => self.root = Some(text),
-            Valued::Wait | Valued::As | Valued::Explain | Valued::Lint => {}
+            Valued::Wait | Valued::As | Valued::Explain | Valued::Lint | Valued::Ignore => {}
         }
         Ok(())
     }
@@ -66,6 +66,8 @@ pub struct Asked<'a> {
     pub switches: Switches,
     /// Each `-C`.
     pub configurations: Vec<&'a [u8]>,
+    /// Each `--ignore=FILE`.
+    pub ignores: Vec<&'a [u8]>,
     /// The last `-d`.
     pub directory: Option<&'a [u8]>,
     /// The last `-S`.
@@ -87,6 +89,7 @@ impl<'a> Asked<'a> {
         Asked {
             switches: Switches::new(),
             configurations: Vec::new(alloc),
+            ignores: Vec::new(alloc),
             directory: None,
             release: None,
             root: None,
@@ -116,6 +119,7 @@ impl<'a> Asked<'a> {
                 let switches = self.switches.with(Switch::Lint);
                 self.switches = switches.with_form(Form::of(text));
             }
+            Item::WithValue(Valued::Ignore, text) => self.ignores.push(text)?,
             Item::Operand(word) => self.words.push(word)?,
             Item::WithValue(Valued::Wait, _) | Item::Refused(_) => {}
         }
@@ -143,6 +147,7 @@ impl<'a> Asked<'a> {
         Ok(Asked {
             switches: self.switches,
             configurations,
+            ignores: Vec::from_slice(alloc, &self.ignores)?,
             directory: self.other.directory.or(self.directory),
             release: self.other.release.or(self.release),
             root: self.other.root.or(self.root),

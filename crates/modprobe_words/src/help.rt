@@ -16,7 +16,7 @@ pub(crate) const HELP: &str = "Usage:
   gz-modprobe -R [options] -a modulename [modulename...]
   gz-modprobe -c [options]
   gz-modprobe --why [options] modulename [modulename...]
-  gz-modprobe --lint[=json] [options]
+  gz-modprobe --lint[=json] [options] [file...]
   gz-modprobe [options] --diff [options of the other files] [modulename...]
 
 It answers what modprobe(8) of kmod 34 answers, and loads and removes nothing.
@@ -30,7 +30,8 @@ Queries:
   -r, --remove                With -n: what a removal would do
       --why                   Print what leads to a module: needs, lines, devices
       --diff                  Print what another machine's files would load instead
-      --lint[=json]           Print the lines of the configuration that have no effect
+      --lint[=json]           Print the lines of the configuration, or of files, that have
+                              no effect
 
 Options of queries:
   -a, --all                   Each word is the name of a module
@@ -44,8 +45,10 @@ Options of queries:
       --root=DIR              Read all files, of /etc, /sys and /proc too, below DIR
       --as=VERSION            Answer as kmod 30 or as kmod 34; without it as 34
       --explain[=json]        Say on standard error which lines gave the answer
+      --ignore=FILE           With --lint: leave out the notes that FILE names
       --json                  Print the answer, and what gave it, as JSON
       --shell                 Print the lines quoted for sh, each insmod once
+      --strict                With --lint: fail also for commands that keep nothing out
       --whole                 With -r: what the removal itself would do
 
 General options:

@@ -1,5 +1,5 @@
-//! The options of modprobe(8), and nine more: `--explain`, `--lint`, `--root`, `--as`, `--whole`, `--why`, `--json`, `--shell`
-//! and `--diff`.
+//! The options of modprobe(8), and eleven more: `--explain`, `--lint`, `--root`, `--as`, `--whole`, `--why`, `--json`, `--shell`,
+//! `--diff`, `--strict` and `--ignore=FILE`.
 ghost use Rattle.std.specs.Prelude.{◌≡◌};
 ghost use Rattle.modprobe_words.specs.Options.{kind_of, may_be_cut, meaning_of_letter, meaning_of, word_of, valued_form};
 
@@ -33,6 +33,7 @@ pub enum Switch {
     Json,
     Shell,
     Diff,
+    Strict,
 }
 
 /// An option with a value.
@@ -46,6 +47,7 @@ pub enum Valued {
     As,
     Explain,
     Lint,
+    Ignore,
 }
 
 /// What an option stands for.
@@ -96,10 +98,12 @@ pub enum LongOption {
     JsonWord,
     ShellWord,
     DiffWord,
+    StrictWord,
+    IgnoreWord,
 }
 
 /// The options by words, in the order of `modprobe --help`, and then those that modprobe has not.
-pub(crate) const LONG_OPTIONS: [LongOption; 38] = [
+pub(crate) const LONG_OPTIONS: [LongOption; 40] = [
     LongOption::AllWord,
     LongOption::RemoveWord,
     LongOption::RemoveDependenciesWord,
@@ -138,6 +142,8 @@ pub(crate) const LONG_OPTIONS: [LongOption; 38] = [
     LongOption::JsonWord,
     LongOption::ShellWord,
     LongOption::DiffWord,
+    LongOption::StrictWord,
+    LongOption::IgnoreWord,
 ];
 
 /// The option of a letter.
@@ -226,22 +232,26 @@ impl LongOption {
             LongOption::JsonWord => b"json",
             LongOption::ShellWord => b"shell",
             LongOption::DiffWord => b"diff",
+            LongOption::StrictWord => b"strict",
+            LongOption::IgnoreWord => b"ignore",
         }
     }
 
-    /// Whether a beginning of the word stands for it. `--as`, `--whole`, `--why`, `--shell` and `--diff` are not cut, so that
-    /// `--a` is `--all`, `--w` is `--wait` and `--di` is `--dirname`, as with modprobe.
+    /// Whether a beginning of the word stands for it. `--as`, `--whole`, `--why`, `--shell`, `--diff`, `--strict` and `--ignore`
+    /// are not cut, so that `--a` is `--all`, `--w` is `--wait` and `--di` is `--dirname`, as with modprobe.
     pub(crate) fn may_be_cut(self) -> bool
         ensures { result ≡ may_be_cut self }
     {
-        match self {
-            LongOption::AsWord => false,
-            LongOption::WholeWord => false,
-            LongOption::WhyWord => false,
-            LongOption::ShellWord => false,
-            LongOption::DiffWord => false,
-            _ => true,
-        }
+        !matches!(
+            self,
+            LongOption::AsWord
+                | LongOption::WholeWord
+                | LongOption::WhyWord
+                | LongOption::ShellWord
+                | LongOption::DiffWord
+                | LongOption::StrictWord
+                | LongOption::IgnoreWord
+        )
     }
 
     /// What an option without a value stands for if it has one all the same; None if that is refused.
@@ -251,6 +261,7 @@ impl LongOption {
         match self {
             LongOption::ExplainWord => Some(Valued::Explain),
             LongOption::LintWord => Some(Valued::Lint),
+            LongOption::IgnoreWord => Some(Valued::Ignore),
             _ => None,
         }
     }
@@ -301,6 +312,8 @@ impl LongOption {
             LongOption::JsonWord => Meaning::Plain(Switch::Json),
             LongOption::ShellWord => Meaning::Plain(Switch::Shell),
             LongOption::DiffWord => Meaning::Plain(Switch::Diff),
+            LongOption::StrictWord => Meaning::Plain(Switch::Strict),
+            LongOption::IgnoreWord => Meaning::Plain(Switch::IgnoreCommands),
         }
     }
 }

@@ -33,6 +33,8 @@ pub struct Switches {
     pub shell: bool,
     /// What two machines answer otherwise is asked for.
     pub diff: bool,
+    /// Each note of a lint counts for the status.
+    pub strict: bool,
     /// 4 at first.
     pub verbosity: u64,
 }
@@ -60,6 +62,7 @@ impl Switches {
             json: false,
             shell: false,
             diff: false,
+            strict: false,
             verbosity: 4,
         }
     }
@@ -93,6 +96,7 @@ impl Switches {
             }
             Switch::Shell => switches.shell = true,
             Switch::Diff => switches.diff = true,
+            Switch::Strict => switches.strict = true,
             Switch::Force
             | Switch::ForceModversion
             | Switch::ForceVermagic

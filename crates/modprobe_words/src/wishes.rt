@@ -23,8 +23,6 @@ pub enum Wish {
     Diff,
     /// Refused: no name was given.
     NoName,
-    /// Refused: a name was given beside `--lint`.
-    LintOfName,
     /// Refused: what the file of a module has.
     ShowModule,
     /// Refused: to remove also the modules that hold one.
@@ -87,17 +85,15 @@ impl Switches {
         }
     }
 
-    /// What is wished, if there is a name or not.
+    /// What is wished, if there is a name or not. The words of a lint are no names, but files.
     #[tactic(auto, unfolding(crate::specs::Wishes::wish_of))]
     pub fn wish(self, has_name: bool) -> Wish
         ensures { result ≡ wish_of self has_name }
     {
-        if !self.lint {
-            self.asks_of_two(has_name)
-        } else if has_name {
-            Wish::LintOfName
-        } else {
+        if self.lint {
             Wish::Lint
+        } else {
+            self.asks_of_two(has_name)
         }
     }
 }

@@ -7,4 +7,4 @@ use Rattle.gz_modprobe_drive.proofs.masks.add_unmasked.Given as goal
 abbrev pub invariant-loop-file : goal.invariant-loop-file
 invariant-loop-file l =
     pieces_of_facts l.facts.items
-    ≡ pieces_of_facts l.initial.facts.items ++ flat_map (hidden_note l.texts.files.items) (take l.file-index l.hidden)
+    ≡ pieces_of_facts l.initial.facts.items ++ flat_map (hidden_note l.texts.files.items l.ignores) (take l.file-index l.hidden)

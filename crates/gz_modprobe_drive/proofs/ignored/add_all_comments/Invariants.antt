@@ -1,0 +1,15 @@
+use Rattle.std.proofs.Common.{◌≡◌, ◌+◌, ◌++◌, length}
+use Rattle.std.specs.List.{enumerate_from, flat_map}
+use Rattle.gz_modprobe_drive.specs.Ignored.{comments_in, comments_of}
+use Rattle.gz_modprobe_drive.specs.Texts.{texts_in}
+use Rattle.gz_modprobe_drive.proofs.ignored.add_all_comments.Given as goal
+
+-- what is there, and what the texts say that are left, are what was there and what all say
+abbrev pub invariant-loop-file : goal.invariant-loop-file
+invariant-loop-file l = record {
+  number : l.source + length l.rest ≡ length l.files;
+  said : l.ignores.items ++ flat_map comments_in (enumerate_from l.source (texts_in l.rest)) ≡ l.initial.ignores.items ++ comments_of l.files;
+}
+
+abbrev pub decreases-loop-file : goal.decreases-loop-file
+decreases-loop-file l = length l.rest
