@@ -69,6 +69,7 @@ setting_unknown of_setting.Softdep = codes "softdep, but no module has this name
 abbrev pub blacklist_words : Blacklist → List ℕ
 blacklist_words of_blacklist.Listed = []
 blacklist_words of_blacklist.Holds = codes ", so it is not loaded"
+blacklist_words of_blacklist.InKernel = codes ", so it has no line, but is in the kernel"
 blacklist_words of_blacklist.OwnName = codes ", which does not hold for its own name without -b"
 blacklist_words of_blacklist.Needed = codes ", which does not hold for what another module needs"
 blacklist_words of_blacklist.SoftDependency = codes ", which does not hold for a soft dependency"
@@ -78,6 +79,7 @@ blacklist_words of_blacklist.Resolved = codes ", which does not hold for -R"
 abbrev pub blacklist_passed_over : Blacklist → List ℕ
 blacklist_passed_over of_blacklist.Listed = []
 blacklist_passed_over of_blacklist.Holds = []
+blacklist_passed_over of_blacklist.InKernel = []
 blacklist_passed_over of_blacklist.OwnName = codes "own_name"
 blacklist_passed_over of_blacklist.Needed = codes "needed"
 blacklist_passed_over of_blacklist.SoftDependency = codes "soft_dependency"
@@ -87,6 +89,7 @@ blacklist_passed_over of_blacklist.Resolved = codes "resolve"
 abbrev pub blacklist_outcome : Blacklist → List ℕ
 blacklist_outcome of_blacklist.Listed = []
 blacklist_outcome of_blacklist.Holds = codes "not_loaded"
+blacklist_outcome of_blacklist.InKernel = codes "in_kernel"
 blacklist_outcome of_blacklist.OwnName = []
 blacklist_outcome of_blacklist.Needed = []
 blacklist_outcome of_blacklist.SoftDependency = []

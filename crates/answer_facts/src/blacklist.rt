@@ -9,6 +9,8 @@ pub enum Blacklist {
     Listed,
     /// It keeps the module from being loaded.
     Holds,
+    /// It holds for a module in the kernel, which is there all the same.
+    InKernel,
     /// It does not hold, since the module is asked for by its own name, without -b.
     OwnName,
     /// It does not hold, since another module needs it.
@@ -27,6 +29,7 @@ impl Blacklist {
         match self {
             Blacklist::Listed => b"",
             Blacklist::Holds => b", so it is not loaded",
+            Blacklist::InKernel => b", so it has no line, but is in the kernel",
             Blacklist::OwnName => b", which does not hold for its own name without -b",
             Blacklist::Needed => b", which does not hold for what another module needs",
             Blacklist::SoftDependency => b", which does not hold for a soft dependency",
@@ -41,6 +44,7 @@ impl Blacklist {
         match self {
             Blacklist::Listed => b"",
             Blacklist::Holds => b"",
+            Blacklist::InKernel => b"",
             Blacklist::OwnName => b"own_name",
             Blacklist::Needed => b"needed",
             Blacklist::SoftDependency => b"soft_dependency",
@@ -55,6 +59,7 @@ impl Blacklist {
         match self {
             Blacklist::Listed => b"",
             Blacklist::Holds => b"not_loaded",
+            Blacklist::InKernel => b"in_kernel",
             Blacklist::OwnName => b"",
             Blacklist::Needed => b"",
             Blacklist::SoftDependency => b"",

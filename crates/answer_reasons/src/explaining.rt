@@ -27,6 +27,15 @@ fn name_count(query: &Query<'_>) -> usize {
     }
 }
 
+/// What a blacklist line does that holds, for a module that is in the kernel or not.
+fn held_by(is_builtin: bool) -> Blacklist {
+    if is_builtin {
+        Blacklist::InKernel
+    } else {
+        Blacklist::Holds
+    }
+}
+
 impl<'a> Told<'_, 'a> {
     /// Tells whether a module is loaded in a world, and what that leads to.
     fn begin_load(
@@ -41,7 +50,8 @@ impl<'a> Told<'_, 'a> {
             return self.tell_in_kernel(subject.name, Outcome::NothingLoaded);
         }
         if is_barred(world, query, object) {
-            return self.tell_blacklist(subject.name, Blacklist::Holds);
+            let is_builtin = world.index.is_builtin(&object.name);
+            return self.tell_blacklist(subject.name, held_by(is_builtin));
         }
         self.tell_exempt_object(tasks, world, object, subject.name)?;
         if subject.alias.is_some() || query.use_blacklist {
