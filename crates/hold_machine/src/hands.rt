@@ -23,7 +23,8 @@ pub enum Doing {
     Removes(usize),
 }
 
-/// The hands of all calls over a kernel in memory. An act goes on as a plan says, and once the hands of a call that asks are gone.
+/// The hands of all calls over a kernel in memory. An act goes on as a plan says, and once the hands of a call that asks are
+/// gone.
 #[derive(Drop)]
 pub struct MemoryHands<'a> {
     pub(crate) kernel: Kernel,
