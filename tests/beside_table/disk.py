@@ -61,22 +61,26 @@ def changed(content, change):
 
 @dataclass
 class Folder:
-    """What has a name in a folder, and what had it since the names were synced last: one of these a power cut leaves."""
+    """What has a name in a folder, what had it when the names were synced last, and what changed since. A power cut leaves of
+    each change all or nothing."""
 
     names: dict = field(default_factory=dict)
-    since: dict = field(default_factory=dict)
+    kept: dict = field(default_factory=dict)
+    changes: list = field(default_factory=list)
 
-    def put(self, name, what):
-        """Gives a name to a file or a folder, or to none."""
-        self.since.setdefault(name, [None]).append(what)
-        self.names[name] = what
+    def put(self, change):
+        """Gives names to files or folders, or to none, all at once."""
+        self.changes.append(change)
+        self.names |= change
 
     def sync(self):
-        self.since = {name: [what] for name, what in self.names.items()}
+        self.kept, self.changes = dict(self.names), []
 
     def left(self, rng):
         """What a power cut may leave, by its names."""
-        chosen = {name: rng.choice(self.since[name]) for name in sorted(self.since)}
+        chosen = dict(self.kept)
+        for change in self.changes:
+            chosen |= change if rng.randrange(2) else {}
         return {name: what.left(rng) for name, what in chosen.items() if what is not None}
 
 
@@ -89,7 +93,7 @@ class Disk:
         if files is not None:
             own = Folder({name: File(content, content) for name, content in files.items()})
             own.sync()
-            self.above.put(os.path.basename(folder), own)
+            self.above.put({os.path.basename(folder): own})
             self.above.sync()
 
     def place_of(self, path):
@@ -132,7 +136,7 @@ class Disk:
             return
         folder, name = place
         if folder.names.get(name) is None:
-            folder.put(name, File())
+            folder.put({name: File()})
         what = folder.names[name]
         if "O_TRUNC" in arguments and what.seen:
             what.change((0, None))
@@ -143,19 +147,20 @@ class Disk:
 
     def at_mkdir(self, _, texts, __):
         if place := self.place_of(texts[0]):
-            place[0].put(place[1], Folder())
+            place[0].put({place[1]: Folder()})
 
     def at_rename(self, _, texts, __):
         places = [self.place_of(it) for it in texts]
         if None in places:
             raise Unfollowed(f"rename({texts})")
         (folder, source), (target_folder, target) = places
-        target_folder.put(target, folder.names[source])
-        folder.put(source, None)
+        if target_folder is not folder:
+            raise Unfollowed(f"rename({texts})")
+        folder.put({target: folder.names[source], source: None})
 
     def at_unlink(self, _, texts, __):
         if place := self.place_of(texts[0]):
-            place[0].put(place[1], None)
+            place[0].put({place[1]: None})
 
     def at_fsync(self, arguments, _, __):
         opened = self.open.get(int(arguments))
