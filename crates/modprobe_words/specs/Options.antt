@@ -62,6 +62,7 @@ switch_number switch.Why = 23
 switch_number switch.Json = 24
 switch_number switch.Shell = 25
 switch_number switch.Diff = 26
+switch_number switch.Strict = 27
 
 abbrev pub valued_number : Valued → ℕ
 valued_number valued.Wait = 0
