@@ -7,6 +7,7 @@ use crate::log::Tenures;
 use crate::tenure::begin_over;
 use file_journal::{FileDevice, FolderLock, LockKind};
 use line_journal::DeviceError;
+use std::alloc::Global;
 use std::env::Env;
 use std::fs::File;
 use std::io::Write;
@@ -17,6 +18,31 @@ use table_folder::{
     name_of_setup, new_setup, write_setup,
 };
 use table_words::{Ending, Origin};
+
+/// Writes the journal of a new table of the setup of this name into its file, in a tenure that is noted. One that has commands
+/// stays as it is.
+fn fill_journal<R: Files + Drop>(
+    alloc: Global,
+    log: &mut Tenures,
+    device: &mut FileDevice<R>,
+    name: &[u8],
+) -> Result<(), TableFault>
+    ensures created { OnOk result (HasCreated name.now log.old log.new) }
+    ensures grown { HasGrown log.old log.new }
+{
+    begin_over(device, log)?;
+    let found = found_in(alloc, device)?;
+    if found.lines.len() > 1 || !(found.behind.is_empty() || found.is_at_rest()) {
+        return Err(TableFault::UsedJournal);
+    }
+    let created = durable_table::create(alloc, device, name);
+    log.end(device.believed());
+    match created {
+        Ok(()) => Ok(()),
+        Err(DeviceError::OutOfMemory) => Err(TableFault::OutOfMemory),
+        Err(DeviceError::Failed) => Err(journal_fault(device.fault())),
+    }
+}
 
 /// Writes the journal of a new table of the setup of this name, which has the lock then. One that has commands stays as it is.
 fn write_journal<'r, R: Files<File = File> + Clock + AllocGlobal>(
@@ -31,18 +57,8 @@ fn write_journal<'r, R: Files<File = File> + Clock + AllocGlobal>(
     ensures grown { HasGrown log.old log.new }
 {
     let mut device = make_journal(shared, lock, mode)?;
-    begin_over(&device, log)?;
-    let found = found_in(shared.alloc(), &mut device)?;
-    if found.lines.len() > 1 || !(found.behind.is_empty() || found.is_at_rest()) {
-        return Err(TableFault::UsedJournal);
-    }
-    let created = durable_table::create(shared.alloc(), &mut device, name);
-    log.end(device.believed());
-    match created {
-        Ok(()) => Ok(device),
-        Err(DeviceError::OutOfMemory) => Err(TableFault::OutOfMemory),
-        Err(DeviceError::Failed) => Err(journal_fault(device.fault())),
-    }
+    fill_journal(shared.alloc(), log, &mut device, name)?;
+    Ok(device)
 }
 
 /// Makes a table in a folder that has none, for those who may use a folder of this mode. The setup is written last.

@@ -278,8 +278,7 @@ fn answer_lines_of<R: Files<File = File> + Clock + AllocGlobal, I: Read, O: Writ
     let setup = read_setup(shared)?;
     let mut kept = Kept::new(&setup);
     let shared = shared.with_setup(&setup);
-    let ending = answer_input(&shared, &mut kept, log, input, output, teller)?;
-    Ok(ending)
+    answer_input(&shared, &mut kept, log, input, output, teller)
 }
 
 /// Does a job.

@@ -1,5 +1,5 @@
 //! What is damaged behind a journal's lines is cut off.
-ghost use Rattle.std.specs.Prelude.{◌≡◌, ◌≢◌, ◌⊎◌, [], ◌∷◌, Some, IfOk, IfSome, IfNone, OnOk};
+ghost use Rattle.std.specs.Prelude.{◌≡◌, ◌≢◌, ◌⊎◌, [], ◌∷◌, Some, false, IfOk, IfSome, IfNone, OnOk};
 ghost use Rattle.line_journal.specs.Device.{AlwaysLeaves};
 ghost use Rattle.line_journal.specs.Journal.{IsFound};
 ghost use Rattle.line_journal.specs.Lines.{lines_of, at_rest, StandsFor};
@@ -92,6 +92,27 @@ fn try_copy(alloc: Global, setup: &FolderSetup, bytes: Vec<u8>) -> Result<(), Ta
     }
 }
 
+/// Keeps in `journal.cut` what stands behind the lines of a journal of this setup. Whether anything does that is to be cut off: if
+/// not, the journal is at rest.
+fn keep_damage<'r, R: Files<File = File> + Clock + AllocGlobal>(
+    shared: &Shared<'r, R>,
+    setup: &FolderSetup,
+    device: &mut FileDevice<&'r R>,
+) -> Result<bool, TableFault>
+    ensures of { OnOk result (IsOf setup.now (⟦<FileDevice<&'r R> as Device>⟧.content device.old)) }
+    ensures sound { IfOk result (λ damaged. damaged ≡ false → ⟦<FileDevice<&'r R> as Device>⟧.content device.new ≡ at_rest (lines_of (⟦<FileDevice<&'r R> as Device>⟧.content device.old))) }
+    ensures content { OnOk result (⟦<FileDevice<&'r R> as Device>⟧.content device.new ≡ ⟦<FileDevice<&'r R> as Device>⟧.content device.old) }
+{
+    let alloc = shared.alloc();
+    let bytes = bytes_of(alloc, device)?;
+    try_copy(alloc, setup, bytes)?;
+    let Some(damage) = damage_in(found_in(alloc, device)?) else {
+        return Ok(false);
+    };
+    keep_cut(shared, &damage.behind)?;
+    Ok(true)
+}
+
 /// The device of a journal of this setup, behind whose lines nothing stands any more. It is kept in `journal.cut` first, and it
 /// is told how many lines it has.
 fn repaired_device<'r, R: Files<File = File> + Clock + AllocGlobal, E: Write>(
@@ -103,14 +124,10 @@ fn repaired_device<'r, R: Files<File = File> + Clock + AllocGlobal, E: Write>(
     ensures of { OnOk result (IsOf setup.now (⟦<FileDevice<&'r R> as Device>⟧.content device.entry)) }
     ensures left { IfOk result (λ left. ⟦<FileDevice<&'r R> as Device>⟧.content left ≡ at_rest (lines_of (⟦<FileDevice<&'r R> as Device>⟧.content device.entry))) }
 {
-    let alloc = shared.alloc();
-    let bytes = bytes_of(alloc, &mut device)?;
-    try_copy(alloc, setup, bytes)?;
-    let Some(damage) = damage_in(found_in(alloc, &mut device)?) else {
+    if !keep_damage(shared, setup, &mut device)? {
         return Ok(device);
-    };
-    keep_cut(shared, &damage.behind)?;
-    match repair_table(alloc, setup, device) {
+    }
+    match repair_table(shared.alloc(), setup, device) {
         Ok(repaired) => {
             teller.repaired(shared.folder, &repaired.found);
             Ok(repaired.table.into_device())
