@@ -39,6 +39,15 @@ fn add_rounds(choices: &mut Vec<Choice>, call: usize) -> Result<(), AllocError> 
     Ok(())
 }
 
+/// Whether calls ended so.
+fn end_in(run: &Run<'_>, states: &[State]) -> bool {
+    let mut is_right = run.calls.len() == states.len();
+    for (call, state) in run.calls.iter().zip(states) {
+        is_right = is_right && call.state() == *state;
+    }
+    is_right
+}
+
 /// Whether calls ended so, and that happened. `AllocError`: memory ran out for a call, or for what happened.
 fn ends_as(run: &Run<'_>, states: &[State], wanted: &[Happened]) -> Result<bool, AllocError> {
     let Some(happened) = run.hands.happened() else {
@@ -49,11 +58,7 @@ fn ends_as(run: &Run<'_>, states: &[State], wanted: &[Happened]) -> Result<bool,
             return Err(AllocError);
         }
     }
-    let mut is_right = run.calls.len() == states.len() && happened == wanted;
-    for (call, state) in run.calls.iter().zip(states) {
-        is_right = is_right && call.state() == *state;
-    }
-    Ok(is_right)
+    Ok(happened == wanted && end_in(run, states))
 }
 
 /// A run with nothing that goes wrong but how acts go on. A table that is broken is out of memory.
@@ -209,12 +214,8 @@ fn goes_on_after(alloc: Global, plan: &Plan<'_>, stopped: Stopped) -> Result<boo
     let Some(happened) = run.hands.happened() else {
         return Err(AllocError.into());
     };
-    let is_right = happened.len() == 5 && happened[4] == Begun(1);
-    Ok(
-        is_right
-            && run.calls[0].state() == State::Over(End::Stopped(stopped))
-            && run.calls[1].state() == DONE,
-    )
+    let states = [State::Over(End::Stopped(stopped)), DONE];
+    Ok(happened.len() == 5 && happened[4] == Begun(1) && end_in(&run, &states))
 }
 
 #[test]
