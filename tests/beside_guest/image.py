@@ -57,7 +57,7 @@ class Image:
         """What the guest says, line by line. It ends by itself, or after so many seconds. It may have a disk."""
         image = Path(room, "initramfs")
         image.write_bytes(gzip.compress(cpio(self.files), 1))
-        words = ["qemu-system-x86_64", "-smp", "2", "-m", "1536" if disk else "1024", "-cpu", "max"]
+        words = ["qemu-system-x86_64", "-smp", "2", "-m", "1024", "-cpu", "max"]
         words += ["-nographic", "-no-reboot", "-nodefaults", "-serial", "stdio", "-kernel", kernel, "-initrd", image]
         words += ["-drive", f"file={disk},if=virtio,format=raw"] if disk else []
         # (on a busy machine the kernel's test of its timer may fail)
