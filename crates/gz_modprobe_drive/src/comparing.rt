@@ -207,8 +207,8 @@ fn tell_by<S: System, O: Write, E: Write>(
     Ok(write_leads(&lines, output, messages))
 }
 
-/// Returns whether a name has another answer, or not all was written. If the folders of modules differ, their files are compared
-/// without folders.
+/// Returns whether a name has another answer, or not all was written. If the folders of modules differ, their files are
+/// compared without folders.
 fn tell_differences<S: System, O: Write, E: Write>(
     one: &Run<'_, S>,
     later: &LaterTexts,

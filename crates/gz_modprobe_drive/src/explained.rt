@@ -13,8 +13,8 @@ use modprobe_words::{Form, Level, Messages};
 use std::alloc::{AllocError, Global};
 use std::io::Write;
 
-/// The facts of an explanation: in JSON with the machine that they are of, or in a form. Apart from `explained`, whose arguments
-/// have more lifetimes than the prover takes for `Sources`.
+/// The facts of an explanation: in JSON with the machine that they are of, or in a form. Apart from `explained`, whose
+/// arguments have more lifetimes than the prover takes for `Sources`.
 fn lines_of<'a>(
     alloc: Global,
     form: Form,

@@ -85,8 +85,8 @@ fn write_shell<O: Write, E: Write>(
     }
 }
 
-/// Writes what is asked for of an answer. Returns how it was written; an answer that no shell may have is not, and that is told.
-/// It fails only if memory runs out, and writes nothing then.
+/// Writes what is asked for of an answer. Returns how it was written; an answer that no shell may have is not, and that is
+/// told. It fails only if memory runs out, and writes nothing then.
 pub(crate) fn write_answer<O: Write, E: Write>(
     alloc: Global,
     machine: &Machine<'_>,
