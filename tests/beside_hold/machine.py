@@ -38,6 +38,8 @@ class Machine:
 
     def __init__(self, room, programs, shell=("/bin/sh",)):
         self.room, self.modules, self.shell = room, room / "modules", shell
+        # The machine's files, as words of gz-table create.
+        self.origin = ["-S", VERSION, f"--root={room}"]
         room.mkdir()
         self.modules.write_text("")
         texts = room / f"lib/modules/{VERSION}"
@@ -97,7 +99,7 @@ class Machine:
         for folder in ("table", "run"):
             shutil.rmtree(self.room / folder, ignore_errors=True)
         self.modules.write_text("")
-        self.run("gz-table", "create", "--host", "-S", VERSION, f"--root={self.room}")
+        self.run("gz-table", "create", "--host", *self.origin)
 
     def kill_at(self, killers, at, when, words):
         """Makes a call that is killed at this place. False if it does not come there."""
